@@ -1,0 +1,4 @@
+pub mod Semiring
+pub mod Sum
+pub mod Integer
+pub mod Ring

@@ -1,0 +1,4 @@
+pub mod Semiring
+pub mod Ring
+pub mod Order
+pub mod Sum
