@@ -3,6 +3,7 @@
 use mathlib.Core.Path.{_≡_, refl, sym, _∙_, ap, ap₂}
 use mathlib.Core.Bool.{Bool, true, false, not, cond}
 use Prim.Native.Nat.{ℕ, zero, suc, _+_, _*_, _-_, _≤_, _<_}
+use native.Mathlib.Nat as NL
 use native.Mathlib.Decide.{decLe}
 use native.Mathlib.Omega.{arith}
 use lib.Dec.{T, T-prop, ltb, leb, ltb→lt, lt→ltb, leb→le, le→leb, nltb→le}
@@ -210,3 +211,10 @@ integerOrder = record {
   add-le = +ℤ-mono;
   mul-nonneg = λ {a} {b} h k. *ℤ-nonneg a b h k;
 }
+
+-- ---- factors that are natural numbers
+pub *ℤ-mono : {a b : ℤ} (n : ℕ) → a ≤ℤ b → (a *ℤ pos n) ≤ℤ (b *ℤ pos n)
+*ℤ-mono {a} {b} n h = omega (signed, split-mul a (pos n), split-mul b (pos n), NL.mul-le-mul-right n (split-le h))
+
+pub *ℤ-cancel-le : {a b : ℤ} (n : ℕ) → 1 ≤ n → (a *ℤ pos n) ≤ℤ (b *ℤ pos n) → a ≤ℤ b
+*ℤ-cancel-le {a} {b} n l h = le-of-split (NL.le-of-mul-le-mul-right {k = n} (omega (signed, split-mul a (pos n), split-mul b (pos n))) l)

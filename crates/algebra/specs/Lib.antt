@@ -2,3 +2,5 @@ pub mod Semiring
 pub mod Ring
 pub mod Order
 pub mod Sum
+pub mod Solver
+pub mod Rational

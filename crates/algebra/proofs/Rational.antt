@@ -1,0 +1,358 @@
+-- The rational numbers as classes of pairs (a, p), a over p. The order on pairs is by multiplying across; pairs each of which is at
+-- most the other are one class. Every law is an identity of integers, proved over any semiring and used at ℤ.
+use mathlib.Core.Path.{_≡_, refl, sym, _∙_, ap}
+use Prim.Native.Nat.{ℕ, _≤_, _*_ as _*ℕ_}
+use native.Mathlib.Nat as NL
+use std.Quotient.{_/_, cls, eq/, /-set, /-rec, /-rec₂, /-elim-prop, /-elim-prop₂, /-elim-prop₃, IsEquivRel, effective}
+use std.HProp.{HProp, HProp-set, HProp-ext}
+use std.HLevel.{Π-prop, Dec-prop}
+use lib.IntN.{ℤ, pos, negℤ, _+ℤ_, _*ℤ_, ℤ-set}
+use lib.Signed.{_≤ℤ_, ≤ℤ-refl}
+use Rattle.algebra.specs.Semiring.{Semiring}
+use Rattle.algebra.specs.Ring.{Ring}
+use Rattle.algebra.specs.Order.{OrderedRing}
+use Rattle.algebra.specs.Rational.{Rationals}
+use Rattle.algebra.proofs.Semiring.{ring, ring-units, zero-mul}
+use Rattle.algebra.proofs.Ring.{ring-signs, neg-mul}
+use Rattle.algebra.proofs.Integer.{integers, integerOrder, signed, split-mul, ≤ℤ-trans, ≤ℤ-antisymm, ≤ℤ-dec, ≤ℤ-total, ≤ℤ-prop, +ℤ-mono, *ℤ-nonneg, *ℤ-mono, *ℤ-cancel-le}
+use Rattle.algebra.proofs.Order.{rewritten, le-of-eq}
+
+-- ---- what the laws come to
+module _ (S : Semiring) where
+  open Semiring S using (carrier as A, 𝟘, 𝟙, _+_, _*_)
+
+  infixl 6 _+_
+  infixl 7 _*_
+  turn : (a b c : A) → a * b * c ≡ a * c * b
+  turn a b c = simp ring
+
+  spread : (a p c q r : A) → (a * q + c * p) * (r * q) ≡ a * r * (q * q) + c * q * (p * r)
+  spread a p c q r = simp ring
+
+  spread′ : (a p c q r : A) → (a * q + c * p) * (r * q) ≡ a * r * (q * q) + c * q * (r * p)
+  spread′ a p c q r = simp ring
+
+  add-commutes : (a p c q : A) → (a * q + c * p) * (q * p) ≡ (c * p + a * q) * (p * q)
+  add-commutes a p c q = simp ring
+
+  add-associates : (a p c q e r : A) → ((a * q + c * p) * r + e * (p * q)) * (p * (q * r)) ≡ (a * (q * r) + (c * r + e * q) * p) * (p * q * r)
+  add-associates a p c q e r = simp ring
+
+  add-nothing : (a p : A) → (a * 𝟙 + 𝟘 * p) * p ≡ a * (p * 𝟙)
+  add-nothing a p = simp (ring, ring-units)
+
+  mul-across : (a c q r : A) → a * c * (r * q) ≡ a * r * (c * q)
+  mul-across a c q r = simp ring
+
+  mul-commutes : (a p c q : A) → a * c * (q * p) ≡ c * a * (p * q)
+  mul-commutes a p c q = simp ring
+
+  mul-associates : (a p c q e r : A) → a * c * e * (p * (q * r)) ≡ a * (c * e) * (p * q * r)
+  mul-associates a p c q e r = simp ring
+
+  mul-unit : (a p : A) → a * 𝟙 * p ≡ a * (p * 𝟙)
+  mul-unit a p = simp ring-units
+
+  mul-null : (a p : A) → a * 𝟘 * 𝟙 ≡ 𝟘 * (p * 𝟙)
+  mul-null a p = simp ring-units
+
+  mul-distributes : (a p c q e r : A) → a * (c * r + e * q) * (p * q * (p * r)) ≡ (a * c * (p * r) + a * e * (p * q)) * (p * (q * r))
+  mul-distributes a p c q e r = simp ring
+
+abbrev Z : Semiring
+Z = integers .semiring
+
+-- ---- pairs
+record Pair : Type 0 where
+  upper : ℤ
+  lower : ℕ
+  positive : 1 ≤ lower
+
+-- the lower number as an integer
+abbrev below : Pair → ℤ
+below x = pos (x .lower)
+
+infix 4 _≈_
+record _≈_ (x y : Pair) : Type 0 where
+  across : x .upper *ℤ below y ≡ y .upper *ℤ below x
+
+infix 4 _≼_
+record _≼_ (x y : Pair) : Type 0 where
+  across : (x .upper *ℤ below y) ≤ℤ (y .upper *ℤ below x)
+
+≈-prop : (x y : Pair) → IsProp (x ≈ y)
+≈-prop x y = λ h k i. record { across = ℤ-set _ _ (h .across) (k .across) i }
+
+≼-prop : (x y : Pair) → IsProp (x ≼ y)
+≼-prop x y = λ h k i. record { across = ≤ℤ-prop _ _ (h .across) (k .across) i }
+
+≼-of-≈ : (x y : Pair) → x ≈ y → x ≼ y
+≼-of-≈ x y e = record { across = le-of-eq integerOrder (e .across) }
+
+≈-sym : (x y : Pair) → x ≈ y → y ≈ x
+≈-sym x y e = record { across = sym (e .across) }
+
+-- a q ≤ c p and c r ≤ e q: then a r q ≤ c p r ≤ e p q
+≼-trans : (x y z : Pair) → x ≼ y → y ≼ z → x ≼ z
+≼-trans x y z h k = record {
+  across = *ℤ-cancel-le (y .lower) (y .positive) (≤ℤ-trans
+      (rewritten integerOrder (*ℤ-mono (z .lower) (h .across)) (turn Z (x .upper) (below y) (below z)) (turn Z (y .upper) (below x) (below z)))
+      (rewritten integerOrder (*ℤ-mono (x .lower) (k .across)) refl (turn Z (z .upper) (below y) (below x))));
+}
+
+≈-trans : (x y z : Pair) → x ≈ y → y ≈ z → x ≈ z
+≈-trans x y z h k = record {
+  across = ≤ℤ-antisymm (≼-trans x y z (≼-of-≈ x y h) (≼-of-≈ y z k) .across)
+      (≼-trans z y x (≼-of-≈ z y (≈-sym y z k)) (≼-of-≈ y x (≈-sym x y h)) .across);
+}
+
+≈-equivalence : IsEquivRel _≈_
+≈-equivalence = record { reflexive = λ x. record { across = refl }; symmetric = ≈-sym; transitive = ≈-trans }
+
+-- ---- operations on pairs
+pair : (a : ℤ) (p : ℕ) → 1 ≤ p → Pair
+pair a p h = record { upper = a; lower = p; positive = h }
+
+plus : Pair → Pair → Pair
+plus x y = record {
+  upper = x .upper *ℤ below y +ℤ y .upper *ℤ below x;
+  lower = x .lower *ℕ y .lower;
+  positive = NL.mul-pos (x .positive) (y .positive);
+}
+
+times : Pair → Pair → Pair
+times x y = record { upper = x .upper *ℤ y .upper; lower = x .lower *ℕ y .lower; positive = NL.mul-pos (x .positive) (y .positive) }
+
+minus : Pair → Pair
+minus x = record { upper = negℤ (x .upper); lower = x .lower; positive = x .positive }
+
+whole : ℤ → Pair
+whole z = record { upper = z; lower = 1; positive = NL.le-refl 1 }
+
+plus-comm : (x y : Pair) → plus x y ≈ plus y x
+unfolding plus
+plus-comm x y = record { across = add-commutes Z (x .upper) (below x) (y .upper) (below y) }
+
+plus-left : (x x′ y : Pair) → x ≈ x′ → plus x y ≈ plus x′ y
+unfolding plus
+plus-left x x′ y e = record {
+  across = spread Z (x .upper) (below x) (y .upper) (below y) (below x′)
+      ∙ ap (λ (v : ℤ). v *ℤ (below y *ℤ below y) +ℤ y .upper *ℤ below y *ℤ (below x *ℤ below x′)) (e .across)
+      ∙ sym (spread′ Z (x′ .upper) (below x′) (y .upper) (below y) (below x));
+}
+
+plus-right : (x y y′ : Pair) → y ≈ y′ → plus x y ≈ plus x y′
+plus-right x y y′ e = ≈-trans _ _ _ (plus-comm x y) (≈-trans _ _ _ (plus-left y y′ x e) (plus-comm y′ x))
+
+times-comm : (x y : Pair) → times x y ≈ times y x
+unfolding times
+times-comm x y = record { across = mul-commutes Z (x .upper) (below x) (y .upper) (below y) }
+
+times-left : (x x′ y : Pair) → x ≈ x′ → times x y ≈ times x′ y
+unfolding times
+times-left x x′ y e = record {
+  across = mul-across Z (x .upper) (y .upper) (below y) (below x′)
+      ∙ ap (λ (v : ℤ). v *ℤ (y .upper *ℤ below y)) (e .across)
+      ∙ sym (mul-across Z (x′ .upper) (y .upper) (below y) (below x));
+}
+
+times-right : (x y y′ : Pair) → y ≈ y′ → times x y ≈ times x y′
+times-right x y y′ e = ≈-trans _ _ _ (times-comm x y) (≈-trans _ _ _ (times-left y y′ x e) (times-comm y′ x))
+
+minus-resp : (x x′ : Pair) → x ≈ x′ → minus x ≈ minus x′
+unfolding minus
+minus-resp x x′ e = record {
+  across = neg-mul integers (x .upper) (below x′) ∙ ap negℤ (e .across) ∙ sym (neg-mul integers (x′ .upper) (below x));
+}
+
+plus-minus : (x : Pair) → plus x (minus x) ≈ whole (pos 0)
+unfolding plus minus whole
+plus-minus x = record { across = cancels integers (x .upper) (below x) }
+  where
+    cancels : (R : Ring) (a p : R .semiring .carrier) → R .semiring ._*_ (R .semiring ._+_ (R .semiring ._*_ a p) (R .semiring ._*_ (R .neg a) p)) (R .semiring .𝟙) ≡ R .semiring ._*_ (R .semiring .𝟘) (R .semiring ._*_ p p)
+    cancels R a p = rw (R .semiring .mul-one, neg-mul, R .add-neg) (sym (zero-mul (R .semiring) (R .semiring ._*_ p p)))
+
+-- ---- classes of pairs
+ℚ : Type 0
+ℚ = Pair / _≈_
+
+class : Pair → ℚ
+unfolding ℚ
+class x = cls x
+
+-- equal classes are shown on pairs
+class-eq : (x y : Pair) → x ≈ y → class x ≡ class y
+unfolding ℚ class
+class-eq x y e = eq/ x y e
+
+infixl 6 _+ℚ_
+_+ℚ_ : ℚ → ℚ → ℚ
+unfolding ℚ /-rec₂
+_+ℚ_ = /-rec₂ /-set (λ x y. cls (plus x y)) (λ x x′ y e. eq/ (plus x y) (plus x′ y) (plus-left x x′ y e)) (λ x y y′ e. eq/ (plus x y) (plus x y′) (plus-right x y y′ e))
+
+infixl 7 _*ℚ_
+_*ℚ_ : ℚ → ℚ → ℚ
+unfolding ℚ /-rec₂
+_*ℚ_ = /-rec₂ /-set (λ x y. cls (times x y)) (λ x x′ y e. eq/ (times x y) (times x′ y) (times-left x x′ y e)) (λ x y y′ e. eq/ (times x y) (times x y′) (times-right x y y′ e))
+
+negℚ : ℚ → ℚ
+unfolding ℚ /-rec
+negℚ = /-rec /-set (λ x. cls (minus x)) (λ x x′ e. eq/ (minus x) (minus x′) (minus-resp x x′ e))
+
+-- ---- the ring
+add-comm : (a b : ℚ) → a +ℚ b ≡ b +ℚ a
+unfolding ℚ _+ℚ_
+add-comm = /-elim-prop₂ (λ a b. a +ℚ b ≡ b +ℚ a) (λ a b. /-set _ _) (λ x y. eq/ (plus x y) (plus y x) (plus-comm x y))
+
+add-assoc : (a b c : ℚ) → a +ℚ b +ℚ c ≡ a +ℚ (b +ℚ c)
+unfolding ℚ _+ℚ_ plus
+add-assoc = /-elim-prop₃ (λ a b c. a +ℚ b +ℚ c ≡ a +ℚ (b +ℚ c)) (λ a b c. /-set _ _)
+    (λ x y z. eq/ (plus (plus x y) z) (plus x (plus y z)) (record { across = add-associates Z (x .upper) (below x) (y .upper) (below y) (z .upper) (below z) }))
+
+add-zero : (a : ℚ) → a +ℚ class (whole (pos 0)) ≡ a
+unfolding ℚ _+ℚ_ class plus whole
+add-zero = /-elim-prop (λ a. a +ℚ class (whole (pos 0)) ≡ a) (λ a. /-set _ _)
+    (λ x. eq/ (plus x (whole (pos 0))) x (record { across = add-nothing Z (x .upper) (below x) }))
+
+add-neg : (a : ℚ) → a +ℚ negℚ a ≡ class (whole (pos 0))
+unfolding ℚ _+ℚ_ negℚ class
+add-neg = /-elim-prop (λ a. a +ℚ negℚ a ≡ class (whole (pos 0))) (λ a. /-set _ _) (λ x. eq/ (plus x (minus x)) (whole (pos 0)) (plus-minus x))
+
+mul-comm : (a b : ℚ) → a *ℚ b ≡ b *ℚ a
+unfolding ℚ _*ℚ_
+mul-comm = /-elim-prop₂ (λ a b. a *ℚ b ≡ b *ℚ a) (λ a b. /-set _ _) (λ x y. eq/ (times x y) (times y x) (times-comm x y))
+
+mul-assoc : (a b c : ℚ) → a *ℚ b *ℚ c ≡ a *ℚ (b *ℚ c)
+unfolding ℚ _*ℚ_ times
+mul-assoc = /-elim-prop₃ (λ a b c. a *ℚ b *ℚ c ≡ a *ℚ (b *ℚ c)) (λ a b c. /-set _ _)
+    (λ x y z. eq/ (times (times x y) z) (times x (times y z)) (record { across = mul-associates Z (x .upper) (below x) (y .upper) (below y) (z .upper) (below z) }))
+
+mul-one : (a : ℚ) → a *ℚ class (whole (pos 1)) ≡ a
+unfolding ℚ _*ℚ_ class times whole
+mul-one = /-elim-prop (λ a. a *ℚ class (whole (pos 1)) ≡ a) (λ a. /-set _ _)
+    (λ x. eq/ (times x (whole (pos 1))) x (record { across = mul-unit Z (x .upper) (below x) }))
+
+mul-zero : (a : ℚ) → a *ℚ class (whole (pos 0)) ≡ class (whole (pos 0))
+unfolding ℚ _*ℚ_ class times whole
+mul-zero = /-elim-prop (λ a. a *ℚ class (whole (pos 0)) ≡ class (whole (pos 0))) (λ a. /-set _ _)
+    (λ x. eq/ (times x (whole (pos 0))) (whole (pos 0)) (record { across = mul-null Z (x .upper) (below x) }))
+
+mul-add : (a b c : ℚ) → a *ℚ (b +ℚ c) ≡ a *ℚ b +ℚ a *ℚ c
+unfolding ℚ _*ℚ_ _+ℚ_ plus times
+mul-add = /-elim-prop₃ (λ a b c. a *ℚ (b +ℚ c) ≡ a *ℚ b +ℚ a *ℚ c) (λ a b c. /-set _ _)
+    (λ x y z. eq/ (times x (plus y z)) (plus (times x y) (times x z)) (record { across = mul-distributes Z (x .upper) (below x) (y .upper) (below y) (z .upper) (below z) }))
+
+ringℚ : Ring
+ringℚ = record {
+  semiring = record {
+    carrier = ℚ;
+    𝟘 = class (whole (pos 0));
+    𝟙 = class (whole (pos 1));
+    _+_ = _+ℚ_;
+    _*_ = _*ℚ_;
+    add-comm = add-comm;
+    add-assoc = add-assoc;
+    add-zero = add-zero;
+    mul-comm = mul-comm;
+    mul-assoc = mul-assoc;
+    mul-one = mul-one;
+    mul-zero = mul-zero;
+    mul-add = mul-add;
+  };
+  neg = negℚ;
+  add-neg = add-neg;
+}
+
+-- ---- the order
+orderly : Pair → Pair → HProp {0}
+orderly x y = (x ≼ y, ≼-prop x y)
+
+orderly-left : (x x′ y : Pair) → x ≈ x′ → orderly x y ≡ orderly x′ y
+unfolding orderly
+orderly-left x x′ y e = HProp-ext (orderly x y) (orderly x′ y)
+    (λ h. ≼-trans x′ x y (≼-of-≈ x′ x (≈-sym x x′ e)) h) (λ h. ≼-trans x x′ y (≼-of-≈ x x′ e) h)
+
+orderly-right : (x y y′ : Pair) → y ≈ y′ → orderly x y ≡ orderly x y′
+unfolding orderly
+orderly-right x y y′ e = HProp-ext (orderly x y) (orderly x y′)
+    (λ h. ≼-trans x y y′ h (≼-of-≈ y y′ e)) (λ h. ≼-trans x y′ y h (≼-of-≈ y′ y (≈-sym y y′ e)))
+
+leℚ : ℚ → ℚ → HProp {0}
+unfolding ℚ /-rec₂
+leℚ = /-rec₂ HProp-set orderly orderly-left orderly-right
+
+infix 4 _≤ℚ_
+abbrev _≤ℚ_ : ℚ → ℚ → Type 0
+a ≤ℚ b = leℚ a b .0
+
+le-refl : (a : ℚ) → a ≤ℚ a
+unfolding ℚ leℚ orderly
+le-refl = /-elim-prop (λ a. a ≤ℚ a) (λ a. leℚ a a .1) (λ x. record { across = ≤ℤ-refl (x .upper *ℤ below x) })
+
+le-trans : (a b c : ℚ) → a ≤ℚ b → b ≤ℚ c → a ≤ℚ c
+unfolding ℚ leℚ orderly
+le-trans = /-elim-prop₃ (λ a b c. a ≤ℚ b → b ≤ℚ c → a ≤ℚ c) (λ a b c. Π-prop (λ _. Π-prop (λ _. leℚ a c .1))) ≼-trans
+
+le-antisymm : (a b : ℚ) → a ≤ℚ b → b ≤ℚ a → a ≡ b
+unfolding ℚ leℚ orderly
+le-antisymm = /-elim-prop₂ (λ a b. a ≤ℚ b → b ≤ℚ a → a ≡ b) (λ a b. Π-prop (λ _. Π-prop (λ _. /-set _ _)))
+    (λ x y h k. eq/ x y (record { across = ≤ℤ-antisymm (h .across) (k .across) }))
+
+le-dec : (a b : ℚ) → Dec (a ≤ℚ b)
+unfolding ℚ leℚ orderly
+le-dec = /-elim-prop₂ (λ a b. Dec (a ≤ℚ b)) (λ a b. Dec-prop (leℚ a b .1)) (λ x y. by x y (≤ℤ-dec (x .upper *ℤ below y) (y .upper *ℤ below x)))
+  where
+    by : (x y : Pair) → Dec ((x .upper *ℤ below y) ≤ℤ (y .upper *ℤ below x)) → Dec (x ≼ y)
+    by x y (yes h) = yes (record { across = h })
+    by x y (no f) = no (λ h. f (h .across))
+
+le-total : (a b : ℚ) → ¬ (a ≤ℚ b) → b ≤ℚ a
+unfolding ℚ leℚ orderly
+le-total = /-elim-prop₂ (λ a b. ¬ (a ≤ℚ b) → b ≤ℚ a) (λ a b. Π-prop (λ _. leℚ b a .1))
+    (λ x y f. record { across = ≤ℤ-total (λ h. f (record { across = h })) })
+
+add-le : (a b c : ℚ) → a ≤ℚ b → a +ℚ c ≤ℚ b +ℚ c
+unfolding ℚ leℚ orderly _+ℚ_ plus
+add-le = /-elim-prop₃ (λ a b c. a ≤ℚ b → a +ℚ c ≤ℚ b +ℚ c) (λ a b c. Π-prop (λ _. leℚ (a +ℚ c) (b +ℚ c) .1))
+    (λ x y z h. record {
+      across = rewritten integerOrder
+          (+ℤ-mono (z .upper *ℤ below z *ℤ (below x *ℤ below y)) (*ℤ-mono (z .lower *ℕ z .lower) (h .across)))
+          (sym (spread Z (x .upper) (below x) (z .upper) (below z) (below y)))
+          (sym (spread′ Z (y .upper) (below y) (z .upper) (below z) (below x)));
+    })
+
+mul-nonneg : (a b : ℚ) → class (whole (pos 0)) ≤ℚ a → class (whole (pos 0)) ≤ℚ b → class (whole (pos 0)) ≤ℚ a *ℚ b
+unfolding ℚ leℚ orderly class _*ℚ_ times whole
+mul-nonneg = /-elim-prop₂ (λ a b. class (whole (pos 0)) ≤ℚ a → class (whole (pos 0)) ≤ℚ b → class (whole (pos 0)) ≤ℚ a *ℚ b)
+    (λ a b. Π-prop (λ _. Π-prop (λ _. leℚ (class (whole (pos 0))) (a *ℚ b) .1)))
+    (λ x y h k. record { across = over-one (x .upper *ℤ y .upper) (x .lower *ℕ y .lower) (*ℤ-nonneg (x .upper) (y .upper) (upper x h) (upper y k)) })
+  where
+    upper : (x : Pair) → whole (pos 0) ≼ x → pos 0 ≤ℤ x .upper
+    upper x h = omega (signed, split-mul (pos 0) (below x), split-mul (x .upper) (pos 1), h .across)
+
+    over-one : (a : ℤ) (p : ℕ) → pos 0 ≤ℤ a → (pos 0 *ℤ pos p) ≤ℤ (a *ℤ pos 1)
+    over-one a p h = omega (signed, split-mul (pos 0) (pos p), split-mul a (pos 1))
+
+pub rationals : Rationals
+unfolding ℚ class ringℚ leℚ orderly pair whole plus times _+ℚ_ _*ℚ_
+rationals = record {
+  order = record {
+    ring = ringℚ;
+    _≤_ = _≤ℚ_;
+    le-refl = le-refl;
+    le-trans = λ {a} {b} {c} h k. le-trans a b c h k;
+    le-antisymm = λ {a} {b} h k. le-antisymm a b h k;
+    le-dec = le-dec;
+    le-total = λ {a} {b} f. le-total a b f;
+    add-le = λ {a} {b} c h. add-le a b c h;
+    mul-nonneg = λ {a} {b} h k. mul-nonneg a b h k;
+  };
+  ratio = λ a p h. class (pair a p h);
+  ratio-every = /-elim-prop _ (λ x. squash₁) (λ x. ∣ (x .upper, x .lower, x .positive, refl) ∣₁);
+  ratio-zero = λ h. class-eq (pair (pos 0) 1 h) (whole (pos 0)) (record { across = refl });
+  ratio-one = λ h. class-eq (pair (pos 1) 1 h) (whole (pos 1)) (record { across = refl });
+  ratio-add = λ a c p q h k. refl;
+  ratio-mul = λ a c p q h k. refl;
+  ratio-eq = λ a c p q h k. ((λ e. effective ≈-prop ≈-equivalence (pair a p h) (pair c q k) e .across), (λ e. class-eq (pair a p h) (pair c q k) (record { across = e })));
+  ratio-le = λ a c p q h k. ((λ l. l .across), (λ l. record { across = l }));
+}
