@@ -84,14 +84,16 @@ pub eq-of-split : {a b : ℤ} → up a + down b ≡ up b + down a → a ≡ b
 eq-of-split {a} {b} h = split-≡ a b h
 
 -- ---- the operations, by the parts
-sub-cases : (c : Bool) (x y : ℤ) (m n : ℕ) → (T c → up x + n ≡ m + down x) → (T (not c) → up y + n ≡ m + down y)
-    → up (cond c x y) + n ≡ m + down (cond c x y)
-sub-cases true x y m n f g = f tt
-sub-cases false x y m n f g = g tt
+-- a difference of natural numbers, by which of the two is larger
+pub subℕ-cases : (P : ℤ → Type 0) (a b : ℕ) → (a < b → P (negsuc (b - suc a))) → (b ≤ a → P (pos (a - b))) → P (subℕ a b)
+subℕ-cases P a b less more = by (ltb a b) (λ t. less (ltb→lt a b t)) (λ t. more (nltb→le a b t))
+  where
+    by : (c : Bool) → (T c → P (negsuc (b - suc a))) → (T (not c) → P (pos (a - b))) → P (cond c (negsuc (b - suc a)) (pos (a - b)))
+    by true f g = f tt
+    by false f g = g tt
 
 split-subℕ : (a b : ℕ) → up (subℕ a b) + b ≡ a + down (subℕ a b)
-split-subℕ a b = sub-cases (ltb a b) (negsuc (b - suc a)) (pos (a - b)) a b
-    (λ t. let h = ltb→lt a b t in omega arith) (λ t. let h = nltb→le a b t in omega arith)
+split-subℕ a b = subℕ-cases (λ z. up z + b ≡ a + down z) a b (λ h. omega arith) (λ h. omega arith)
 
 pub split-add : (a b : ℤ) → up (a +ℤ b) + (down a + down b) ≡ up a + up b + down (a +ℤ b)
 split-add (pos a) (pos b) = omega arith

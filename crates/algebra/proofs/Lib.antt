@@ -5,3 +5,9 @@ pub mod Ring
 pub mod Solver
 pub mod Order
 pub mod Rational
+pub mod Ratio
+pub mod Size
+pub mod Natural
+pub mod Smallest
+pub mod Table
+pub mod Row

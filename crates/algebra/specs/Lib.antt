@@ -4,3 +4,7 @@ pub mod Order
 pub mod Sum
 pub mod Solver
 pub mod Rational
+pub mod Size
+pub mod Smallest
+pub mod Table
+pub mod Row

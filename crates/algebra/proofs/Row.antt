@@ -1,0 +1,33 @@
+-- Rows written from the front: the seam between what was written and what stood there is moved by the kit's laws of `++` and `drop`.
+use mathlib.Core.Path.{_≡_, refl, sym, _∙_, ap}
+use mathlib.Core.List.{List, [], _∷_, _++_, append-assoc}
+use Prim.Native.Nat.{ℕ, zero, suc, _+_, _-_, _≤_, _<_}
+use native.Mathlib.Nat as NL
+use native.Mathlib.Omega.{arith}
+use lib.ListN.{length, set, getD, drop, length-append, length-drop}
+use lib.Seq.{drop-cons, set-append-seam, drop-append-add, drop-drop}
+use Rattle.algebra.specs.Row.{written, WrittenLength, WrittenNext, WrittenAgain}
+
+module _ {A : Type 0} where
+  pub written-length : WrittenLength A
+  written-length front row h = simp (length-append, length-drop) (omega arith)
+
+  pub written-next : WrittenNext A
+  written-next front row v h =
+      ap (λ (l : List A). set (front ++ l) (length front) v) (drop-cons row (length front) v h)
+      ∙ set-append-seam front (getD row (length front) v) (drop (suc (length front)) row) v
+      ∙ sym (append-assoc front (v ∷ []) (drop (suc (length front)) row))
+      ∙ ap (λ (k : ℕ). (front ++ (v ∷ [])) ++ drop k row) (sym one-more)
+    where
+      one-more : length (front ++ (v ∷ [])) ≡ suc (length front)
+      one-more = simp length-append (omega arith)
+
+  pub written-again : WrittenAgain A
+  written-again first second row h = ap (λ (l : List A). second ++ l)
+      (ap (λ (k : ℕ). drop k (written first row)) apart
+      ∙ drop-append-add first (drop (length first) row) (length second - length first)
+      ∙ drop-drop (length second - length first) (length first) row
+      ∙ ap (λ (k : ℕ). drop k row) (sym apart))
+    where
+      apart : length second ≡ length first + (length second - length first)
+      apart = omega arith

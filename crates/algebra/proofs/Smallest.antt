@@ -1,0 +1,28 @@
+-- Both laws of `smallest` by induction on the number of places, by what the test says of the first.
+use mathlib.Core.Path.{_≡_, refl}
+use mathlib.Core.Bool.{Bool, true, false, cond}
+use Prim.Native.Nat.{ℕ, zero, suc, _≤_, _<_}
+use native.Mathlib.Nat as NL
+use native.Mathlib.Omega.{arith}
+use Rattle.algebra.specs.Smallest.{smallest, FailBelow, SmallestIs, SmallestFinds}
+
+pub smallest-is : SmallestIs
+unfolding smallest
+smallest-is test zero i le below here = omega arith
+smallest-is test (suc n) zero le below here = rw (here (omega arith))
+smallest-is test (suc n) (suc i) le below here =
+    rw (below 0 (omega arith), smallest-is (λ k. test (suc k)) n i (omega arith) (λ k h. below (suc k) (omega arith)) (λ h. here (omega arith)))
+
+pub smallest-finds : SmallestFinds
+unfolding smallest
+smallest-finds test zero = (NL.le-refl 0, (λ k h. absurd (NL.not-suc-le-zero h)), (λ h. absurd (NL.not-suc-le-zero h)))
+smallest-finds test (suc n) = by (test 0) refl (smallest (λ k. test (suc k)) n) (smallest-finds (λ k. test (suc k)) n)
+  where
+    by : (b : Bool) → test 0 ≡ b → (s : ℕ) → (s ≤ n) × FailBelow (λ k. test (suc k)) s × (s < n → test (suc s) ≡ true)
+        → (cond b 0 (suc s) ≤ suc n) × FailBelow test (cond b 0 (suc s)) × (cond b 0 (suc s) < suc n → test (cond b 0 (suc s)) ≡ true)
+    by true e s ih = (omega arith, (λ k h. absurd (NL.not-suc-le-zero h)), (λ _. e))
+    by false e s ih = (omega (arith, ih .0), fails, (λ h. ih .2 (omega arith)))
+      where
+        fails : (k : ℕ) → k < suc s → test k ≡ false
+        fails zero h = e
+        fails (suc k) h = ih .1 k (omega arith)
