@@ -5,7 +5,7 @@ use native.Mathlib.Nat as NL
 use native.Mathlib.Decide.{decLe}
 use native.Mathlib.Omega.{arith}
 use Rattle.algebra.specs.Semiring.{Semiring}
-use Rattle.algebra.specs.Sum.{accumulate, sum, SumRelated, SumAdd, SumScale, SumExchange, SumShift, SumCut, SumTriangle}
+use Rattle.algebra.specs.Sum.{accumulate, sum, SumRelated, SumAdd, SumScale, SumExchange, SumShift, SumCut, SumDiagonals, SumTriangle}
 use Rattle.algebra.proofs.Semiring.{ring}
 
 pub sum-related : {A B : Type 0} → SumRelated A B
@@ -88,10 +88,16 @@ module _ (R : Semiring) where
       ∙ ap₂ _+_ (ap f (omega arith)) (sum-reverse n f ∙ sum-cong n (λ i l. ap f (omega arith)))
       ∙ sym (sum-shift n (λ i. f (suc n - suc i)))
 
-  -- a triangle of side n + 1 is one of side n and the diagonal, which reads the same from both ends
-  pub sum-triangle : SumTriangle R
-  sum-triangle zero F = sum-zero (λ y. sum R (0 - suc y) (λ z. F y z)) ∙ sym (sum-zero (λ z. sum R (0 - suc z) (λ y. F y z)))
-  sum-triangle (suc n) F = grow F ∙ ap₂ _+_ (sum-triangle n F) diagonal ∙ sym (grow (λ z y. F y z))
+  -- a triangle of side n + 1 is one of side n and one diagonal more
+  pub sum-diagonals : SumDiagonals R
+  sum-diagonals zero F = sum-zero (λ y. sum R (0 - suc y) (λ z. F y z)) ∙ sym (sum-zero (λ u. sum R u (λ y. F y (u - suc y))))
+  sum-diagonals (suc n) F =
+      sum-suc n (λ y. sum R (suc n - suc y) (λ z. F y z))
+      ∙ ap₂ _+_ (sum-cong n longer ∙ sum-add n (λ y. sum R (n - suc y) (λ z. F y z)) (λ y. F y (n - suc y)))
+      (ap (λ (k : ℕ). sum R k (λ z. F n z)) none ∙ sum-zero (λ z. F n z))
+      ∙ R .add-zero _
+      ∙ ap (λ (x : A). x + sum R n (λ y. F y (n - suc y))) (sum-diagonals n F)
+      ∙ sym (sum-suc n (λ u. sum R u (λ y. F y (u - suc y))))
     where
       step : (y : ℕ) → y < n → suc n - suc y ≡ suc (n - suc y)
       step y l = omega arith
@@ -99,16 +105,12 @@ module _ (R : Semiring) where
       none : suc n - suc n ≡ 0
       none = omega arith
 
-      longer : (G : ℕ → ℕ → A) (y : ℕ) → y < n
-          → sum R (suc n - suc y) (λ z. G y z) ≡ sum R (n - suc y) (λ z. G y z) + G y (n - suc y)
-      longer G y l = ap (λ (k : ℕ). sum R k (λ z. G y z)) (step y l) ∙ sum-suc (n - suc y) (λ z. G y z)
+      longer : (y : ℕ) → y < n → sum R (suc n - suc y) (λ z. F y z) ≡ sum R (n - suc y) (λ z. F y z) + F y (n - suc y)
+      longer y l = ap (λ (k : ℕ). sum R k (λ z. F y z)) (step y l) ∙ sum-suc (n - suc y) (λ z. F y z)
 
-      grow : (G : ℕ → ℕ → A) → sum R (suc n) (λ y. sum R (suc n - suc y) (λ z. G y z))
-          ≡ sum R n (λ y. sum R (n - suc y) (λ z. G y z)) + sum R n (λ y. G y (n - suc y))
-      grow G = sum-suc n (λ y. sum R (suc n - suc y) (λ z. G y z))
-          ∙ ap₂ _+_ (sum-cong n (longer G) ∙ sum-add n (λ y. sum R (n - suc y) (λ z. G y z)) (λ y. G y (n - suc y)))
-          (ap (λ (k : ℕ). sum R k (λ z. G n z)) none ∙ sum-zero (λ z. G n z))
-          ∙ R .add-zero _
-
-      diagonal : sum R n (λ y. F y (n - suc y)) ≡ sum R n (λ z. F (n - suc z) z)
-      diagonal = sum-reverse n (λ y. F y (n - suc y)) ∙ sum-cong n (λ z l. ap (λ (k : ℕ). F (n - suc z) k) (omega arith))
+  -- a diagonal reads the same from both ends
+  pub sum-triangle : SumTriangle R
+  sum-triangle n F = sum-diagonals n F ∙ sum-cong n (λ u l. turned u) ∙ sym (sum-diagonals n (λ z y. F y z))
+    where
+      turned : (u : ℕ) → sum R u (λ y. F y (u - suc y)) ≡ sum R u (λ z. F (u - suc z) z)
+      turned u = sum-reverse u (λ y. F y (u - suc y)) ∙ sum-cong u (λ z l. ap (λ (k : ℕ). F (u - suc z) k) (omega arith))

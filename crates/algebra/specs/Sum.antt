@@ -50,7 +50,12 @@ module _ (R : Semiring) where
   abbrev pub SumCut : Type 0
   SumCut = (n m : ℕ) (f : ℕ → A) → ((i : ℕ) → m ≤ i → f i ≡ 𝟘) → sum R n f ≡ sum R (min n m) f
 
-  -- over the triangle of all y and z with y + z + 1 < n, by rows and by columns
+  -- over the triangle of all y and z with y + z + 1 < n: by rows, and by diagonals
+  abbrev pub SumDiagonals : Type 0
+  SumDiagonals = (n : ℕ) (F : ℕ → ℕ → A)
+      → sum R n (λ y. sum R (n - suc y) (λ z. F y z)) ≡ sum R n (λ u. sum R u (λ y. F y (u - suc y)))
+
+  -- and by rows, and by columns
   abbrev pub SumTriangle : Type 0
   SumTriangle = (n : ℕ) (F : ℕ → ℕ → A)
       → sum R n (λ y. sum R (n - suc y) (λ z. F y z)) ≡ sum R n (λ z. sum R (n - suc z) (λ y. F y z))

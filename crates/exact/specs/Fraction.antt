@@ -1,0 +1,56 @@
+-- Fractions, in the paper's words: "a pair of whole numbers, the upper signed and the lower at least 1. Fractions are added and
+-- multiplied as at school, and two are compared by multiplying across." Nothing is reduced.
+use mathlib.Core.Path.{_≡_}
+use Prim.Native.Nat.{ℕ, suc, _≤_, _*_}
+use native.Mathlib.Nat as NL
+use lib.IntN.{ℤ, pos, _+ℤ_, _*ℤ_}
+use lib.Signed.{_≤ℤ_}
+use Rattle.algebra.specs.Sum.{accumulate}
+
+pub record Fraction : Type 0 where
+  pub upper : ℤ
+  pub lower : ℕ
+  pub lower-pos : 1 ≤ lower
+
+-- z over n
+unfoldable pub over : ℤ → (n : ℕ) → 1 ≤ n → Fraction
+over z n h = record { upper = z; lower = n; lower-pos = h }
+
+-- a whole number, over 1
+unfoldable pub whole : ℤ → Fraction
+whole z = over z 1 (NL.le-refl 1)
+
+unfoldable pub plus : Fraction → Fraction → Fraction
+plus x y = record {
+  upper = x .upper *ℤ pos (y .lower) +ℤ y .upper *ℤ pos (x .lower);
+  lower = x .lower * y .lower;
+  lower-pos = NL.mul-pos (x .lower-pos) (y .lower-pos);
+}
+
+unfoldable pub times : Fraction → Fraction → Fraction
+times x y = record {
+  upper = x .upper *ℤ y .upper;
+  lower = x .lower * y .lower;
+  lower-pos = NL.mul-pos (x .lower-pos) (y .lower-pos);
+}
+
+-- x divided by n + 1
+unfoldable pub overSuc : Fraction → ℕ → Fraction
+overSuc x n = record { upper = x .upper; lower = x .lower * suc n; lower-pos = NL.mul-pos (x .lower-pos) (NL.zero-lt-suc n) }
+
+-- equal, and at most, by multiplying across
+infix 4 _≈_
+pub record _≈_ (x y : Fraction) : Type 0 where
+  pub across : x .upper *ℤ pos (y .lower) ≡ y .upper *ℤ pos (x .lower)
+
+infix 4 _≼_
+pub record _≼_ (x y : Fraction) : Type 0 where
+  pub across : (x .upper *ℤ pos (y .lower)) ≤ℤ (y .upper *ℤ pos (x .lower))
+
+-- g 1 + .. + g n
+unfoldable pub oneTo : ℕ → (ℕ → Fraction) → Fraction
+oneTo n g = accumulate (whole (pos 0)) plus n (λ i. g (suc i))
+
+-- g 0 + .. + g n
+unfoldable pub zeroTo : ℕ → (ℕ → Fraction) → Fraction
+zeroTo n g = accumulate (whole (pos 0)) plus (suc n) g

@@ -1,0 +1,5 @@
+pub mod Fraction
+pub mod Frequency
+pub mod Severity
+pub mod Amount
+pub mod Recursion
