@@ -37,7 +37,7 @@ module _ (Q : Rationals) where
         split-mul c (pos 1),
       )
 
-  ratio-nat : (n : ℕ) (h : 1 ≤ 1) → Q .ratio (pos n) 1 h ≡ nat S n
+  pub ratio-nat : (n : ℕ) (h : 1 ≤ 1) → Q .ratio (pos n) 1 h ≡ nat S n
   ratio-nat zero h = Q .ratio-zero h ∙ sym (nat-zero S)
   ratio-nat (suc n) h = ap (λ (z : ℤ). Q .ratio z 1 h) (ap pos (omega arith)) ∙ ratio-add-one (pos n) (pos 1) h
       ∙ ap₂ _+_ (ratio-nat n h) (Q .ratio-one h) ∙ sym (nat-suc S n)

@@ -119,6 +119,11 @@ module _ (R : Semiring) where
     fold-vanishes zero x h = absurd (NL.not-suc-le-zero h)
     fold-vanishes (suc n) x h = convolve-vanishes f (fold f n) x (λ z l. fold-vanishes n z (omega arith))
 
+    -- the unit of convolutions stands at 0, which is not read
+    pub convolve-unit : (g : ℕ → A) (x : ℕ) → convolve (fold f 0) g x ≡ 𝟘
+    unfolding convolve fold
+    convolve-unit g x = sum-vanishes R x _ (λ y l. zero-mul R (g (x - suc y)))
+
     pub weighed-none : (x : ℕ) → nat R x * fold f 0 x ≡ 𝟘
     unfolding fold
     weighed-none zero = ap (λ (v : A). v * 𝟙) (nat-zero R) ∙ zero-mul R 𝟙

@@ -1,1 +1,6 @@
 pub mod Convolution
+pub mod Sundt
+pub mod Value
+pub mod Frequency
+pub mod Amount
+pub mod Recursion
