@@ -1,15 +1,14 @@
 -- ℤ of the kit as an ordered commutative ring, and the way from ℤ to `omega`: z is the difference of its part above zero and its part
 -- below zero, both natural numbers, so a linear statement over ℤ is one over ℕ.
-use mathlib.Core.Path.{_≡_, refl, sym, _∙_, ap, ap₂}
+use mathlib.Core.Path.{_≡_, refl, sym, ap, ap₂}
 use mathlib.Core.Bool.{Bool, true, false, not, cond}
 use Prim.Native.Nat.{ℕ, zero, suc, _+_, _*_, _-_, _≤_, _<_}
 use native.Mathlib.Nat as NL
 use native.Mathlib.Decide.{decLe}
 use native.Mathlib.Omega.{arith}
-use lib.Dec.{T, T-prop, ltb, leb, ltb→lt, lt→ltb, leb→le, le→leb, nltb→le}
-use lib.IntN.{ℤ, pos, negsuc, negℤ, natAbs, subℕ, _+ℤ_, _-ℤ_, _*ℤ_, +ℤ-comm, +ℤ-assoc, +ℤ-idr, +ℤ-invr, *ℤ-comm, *ℤ-zero}
+use lib.Dec.{T, T-prop, ltb, ltb→lt, lt→ltb, leb→le, le→leb, nltb→le}
+use lib.IntN.{ℤ, pos, negsuc, negℤ, natAbs, subℕ, _+ℤ_, _*ℤ_, +ℤ-comm, +ℤ-assoc, +ℤ-idr, +ℤ-invr, *ℤ-comm, *ℤ-zero}
 use lib.Signed.{_≤ℤ_, _<ℤ_, leZ, ltZ, ≤ℤ-refl}
-use Rattle.algebra.specs.Semiring.{Semiring}
 use Rattle.algebra.specs.Ring.{Ring}
 use Rattle.algebra.specs.Order.{OrderedRing}
 

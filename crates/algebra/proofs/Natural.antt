@@ -1,5 +1,4 @@
 -- ℕ of the kit as a commutative semiring, and bounds on its sums.
-use mathlib.Core.Path.{_≡_}
 use Prim.Native.Nat.{ℕ, zero, suc, _+_, _*_, _≤_, _<_}
 use native.Mathlib.Nat as NL
 use native.Mathlib.Omega.{arith}

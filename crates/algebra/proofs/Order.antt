@@ -1,9 +1,8 @@
 -- Derived laws of ordered rings. A difference that is zero or more says the same as an order (`of-difference`, `difference`), and the
 -- solver turns one form of a difference into another.
 use mathlib.Core.Path.{_≡_, refl, sym, _∙_, ap, subst₂}
-use mathlib.Core.List.{List, [], _∷_}
+use mathlib.Core.List.{[], _∷_}
 use Prim.Native.Nat.{ℕ, zero, suc, _<_, _+_ as _+ℕ_, _-_ as _-ℕ_}
-use native.Mathlib.Omega.{arith}
 use lib.IntN.{ℤ, pos, _+ℤ_}
 use lib.Signed.{_≤ℤ_}
 use Rattle.algebra.specs.Semiring.{Semiring, nat}

@@ -1,11 +1,11 @@
 -- Integers among the rational numbers: z over 1 is z, and p times z over p is z.
-use mathlib.Core.Path.{_≡_, refl, sym, _∙_, ap, ap₂}
+use mathlib.Core.Path.{_≡_, sym, _∙_, ap, ap₂}
 use Prim.Native.Nat.{ℕ, zero, suc, _≤_, _*_ as _*ℕ_}
 use native.Mathlib.Nat as NL
 use native.Mathlib.Omega.{arith}
 use lib.IntN.{ℤ, pos, negsuc, _+ℤ_, _*ℤ_}
 use Rattle.algebra.specs.Semiring.{Semiring, nat}
-use Rattle.algebra.specs.Ring.{Ring, int}
+use Rattle.algebra.specs.Ring.{int}
 use Rattle.algebra.specs.Rational.{Rationals}
 use Rattle.algebra.proofs.Semiring.{nat-zero, nat-suc}
 use Rattle.algebra.proofs.Ring.{neg-unique}

@@ -10,10 +10,9 @@ use lib.IntN.{ℤ, pos, negℤ, _+ℤ_, _*ℤ_, ℤ-set}
 use lib.Signed.{_≤ℤ_, ≤ℤ-refl}
 use Rattle.algebra.specs.Semiring.{Semiring}
 use Rattle.algebra.specs.Ring.{Ring}
-use Rattle.algebra.specs.Order.{OrderedRing}
 use Rattle.algebra.specs.Rational.{Rationals}
 use Rattle.algebra.proofs.Semiring.{ring, ring-units, zero-mul}
-use Rattle.algebra.proofs.Ring.{ring-signs, neg-mul}
+use Rattle.algebra.proofs.Ring.{neg-mul}
 use Rattle.algebra.proofs.Integer.{integers, integerOrder, signed, split-mul, ≤ℤ-trans, ≤ℤ-antisymm, ≤ℤ-dec, ≤ℤ-total, ≤ℤ-prop, +ℤ-mono, *ℤ-nonneg, *ℤ-mono, *ℤ-cancel-le}
 use Rattle.algebra.proofs.Order.{rewritten, le-of-eq}
 

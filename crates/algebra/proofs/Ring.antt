@@ -1,10 +1,10 @@
 -- Derived laws of commutative rings: negatives, and the integers in a ring, which are added and multiplied as they are in ℤ.
 use mathlib.Core.Path.{_≡_, refl, sym, _∙_, ap, ap₂}
-use Prim.Native.Nat.{ℕ, zero, suc, _+_ as _+ℕ_, _*_ as _*ℕ_}
+use Prim.Native.Nat.{ℕ, zero, suc}
 use lib.IntN.{ℤ, pos, negsuc, negℤ, _+ℤ_, _*ℤ_}
 use Rattle.algebra.specs.Semiring.{Semiring, nat}
 use Rattle.algebra.specs.Ring.{Ring, int}
-use Rattle.algebra.proofs.Semiring.{ring, +-comm, +-assoc, add-left-comm, zero-add, zero-mul, add-mul, nat-zero, nat-one, nat-add, nat-mul}
+use Rattle.algebra.proofs.Semiring.{ring, +-comm, +-assoc, add-left-comm, zero-add, zero-mul, add-mul, nat-zero, nat-add, nat-mul}
 use Rattle.algebra.proofs.Integer.{up, down, split-add, split-mul, split-neg}
 
 module _ (R : Ring) where

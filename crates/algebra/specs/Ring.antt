@@ -1,6 +1,6 @@
 -- Commutative rings: semirings in which every number has a negative.
 use mathlib.Core.Path.{_≡_}
-use Prim.Native.Nat.{ℕ, suc}
+use Prim.Native.Nat.{suc}
 use lib.IntN.{ℤ, pos, negsuc}
 use Rattle.algebra.specs.Semiring.{Semiring, nat}
 

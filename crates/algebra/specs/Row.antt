@@ -1,8 +1,8 @@
 -- A lent row that is written from its front.
 use mathlib.Core.Path.{_≡_}
 use mathlib.Core.List.{List, [], _∷_, _++_}
-use Prim.Native.Nat.{ℕ, suc, _≤_, _<_}
-use lib.ListN.{length, set, take, drop, replicate}
+use Prim.Native.Nat.{_≤_, _<_}
+use lib.ListN.{length, set, drop}
 
 -- the row after `front` was written over its first places; the later places keep what they held
 abbrev pub written : {A : Type 0} → List A → List A → List A

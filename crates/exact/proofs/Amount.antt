@@ -1,19 +1,16 @@
 -- The exact amounts and rows as rational numbers: rows over the multiples p P_n of the count coefficients.
-use mathlib.Core.Path.{_≡_, refl, sym, _∙_, ap}
-use Prim.Native.Nat.{ℕ, zero, suc, _-_, _<_, _+_ as _+ℕ_}
+use mathlib.Core.Path.{_≡_, sym, _∙_, ap}
+use Prim.Native.Nat.{ℕ, zero, suc, _-_}
 use native.Mathlib.Nat as NL
-use lib.IntN.{pos}
 use Rattle.algebra.specs.Semiring.{Semiring}
-use Rattle.algebra.specs.Sum.{sum}
 use Rattle.algebra.proofs.Sum.{sum-cong, sum-scale}
-use Rattle.exact.specs.Fraction.{Fraction, whole, times, oneTo, zeroTo, _≈_}
+use Rattle.exact.specs.Fraction.{Fraction, times, zeroTo}
 use Rattle.exact.specs.Frequency.{Frequency, countCoefficient}
 use Rattle.exact.specs.Severity.{Severity, density, convolution, TermsVanish}
 use Rattle.exact.specs.Amount.{exactAmount, exactRow}
 use Rattle.exact.proofs.Value.{ℚ, value, eq-of-value, value-times, value-zero, value-one, value-oneTo, value-zeroTo}
 use Rattle.exact.proofs.Convolution.{convolve, fold, fold-vanishes}
 use Rattle.exact.proofs.Sundt.{row, row-next}
-
 open Semiring ℚ using (carrier as A, _*_)
 
 infixl 7 _*_

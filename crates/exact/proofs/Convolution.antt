@@ -6,7 +6,7 @@ use native.Mathlib.Nat as NL
 use native.Mathlib.Omega.{arith}
 use Rattle.algebra.specs.Semiring.{Semiring, nat}
 use Rattle.algebra.specs.Sum.{sum}
-use Rattle.algebra.proofs.Semiring.{ring, ring-units, zero-add, one-mul, zero-mul, nat-zero, nat-suc, nat-one, nat-add}
+use Rattle.algebra.proofs.Semiring.{ring, ring-units, one-mul, zero-mul, nat-zero, nat-suc, nat-one, nat-add}
 use Rattle.algebra.proofs.Sum.{sum-suc, sum-cong, sum-add, sum-scale, sum-scale-right, sum-vanishes, sum-diagonals, sum-triangle}
 
 module _ (R : Semiring) where

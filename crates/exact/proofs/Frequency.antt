@@ -1,8 +1,7 @@
 -- The count coefficients: the list that they are read from has P_(n-j) at place j, so the paper's two equations hold; as rational numbers
 -- they form a sequence of Sundt's class.
 use mathlib.Core.Path.{_≡_, refl, sym, _∙_, ap}
-use mathlib.Core.List.{List, [], _∷_}
-use Prim.Native.Nat.{ℕ, zero, suc, _-_, _≤_, _<_, min}
+use Prim.Native.Nat.{ℕ, zero, suc, _-_, _≤_, min}
 use native.Mathlib.Nat as NL
 use native.Mathlib.Omega.{arith}
 use lib.IntN.{pos}

@@ -4,3 +4,4 @@ pub mod Value
 pub mod Frequency
 pub mod Amount
 pub mod Recursion
+pub mod Cases

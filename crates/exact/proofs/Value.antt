@@ -1,11 +1,11 @@
 -- The rational number that a fraction stands for. Fractions are equal, in order, added and multiplied as their values are, so a claim about
 -- fractions is proved as an equation or an order between rational numbers.
 use mathlib.Core.Path.{_≡_, refl, sym, _∙_, ap, ap₂}
-use Prim.Native.Nat.{ℕ, zero, suc, _≤_, _*_ as _*ℕ_}
+use Prim.Native.Nat.{ℕ, suc, _≤_, _*_ as _*ℕ_}
 use native.Mathlib.Nat as NL
 use lib.IntN.{ℤ, pos, _*ℤ_}
 use Rattle.algebra.specs.Semiring.{Semiring, nat}
-use Rattle.algebra.specs.Ring.{Ring, int}
+use Rattle.algebra.specs.Ring.{int}
 use Rattle.algebra.specs.Order.{OrderedRing}
 use Rattle.algebra.specs.Sum.{accumulate, sum}
 use Rattle.algebra.proofs.Semiring.{ring, ring-units}

@@ -3,3 +3,4 @@ pub mod Frequency
 pub mod Severity
 pub mod Amount
 pub mod Recursion
+pub mod Cases

@@ -13,7 +13,7 @@ abbrev pub PublishedRecursion : Type 0
 PublishedRecursion = (law : Frequency) (table : Severity) (p : Fraction) (x : ℕ)
     → times (whole (pos x)) (exactAmount law table p x)
     ≈ oneTo x (λ y. times (exactAmount law table p (x - y)) (oneTo (law .order) (λ i.
-      times (plus (times (whole (pos x)) (a law i)) (times (whole (pos y)) (overSuc (b law i) (i - 1)))) (convolution (density table) i y))))
+    times (plus (times (whole (pos x)) (a law i)) (times (whole (pos y)) (overSuc (b law i) (i - 1)))) (convolution (density table) i y))))
 
 -- "the same recursion with its convolutions carried in rows", times x: the amount at x is the sum over i from 1 to k and y from 1 to x of
 -- (a_i + b_i y / x) times f(y) times the entry of row i - 1 at x - y
@@ -21,7 +21,7 @@ abbrev pub RowRecursion : Type 0
 RowRecursion = (law : Frequency) (table : Severity) (p : Fraction) (x : ℕ)
     → times (whole (pos x)) (exactAmount law table p x)
     ≈ oneTo (law .order) (λ i. oneTo x (λ y.
-      times (times (plus (times (whole (pos x)) (a law i)) (times (whole (pos y)) (b law i))) (density table y)) (exactRow law table p (i - 1) (x - y))))
+    times (times (plus (times (whole (pos x)) (a law i)) (times (whole (pos y)) (b law i))) (density table y)) (exactRow law table p (i - 1) (x - y))))
 
 -- "(A_i times x + B_i times y) times w(y)": what multiplies the entry of row i - 1 at x - y
 unfoldable pub factor : Frequency → Severity → ℕ → ℕ → ℕ → ℤ
@@ -32,7 +32,7 @@ abbrev pub WholeRecursion : Type 0
 WholeRecursion = (law : Frequency) (table : Severity) (p : Fraction) (x : ℕ)
     → times (whole (pos (law .divisor * x * totalWeight (table .weights)))) (exactAmount law table p x)
     ≈ oneTo (law .order) (λ i. oneTo (min x (length (table .weights))) (λ y.
-      times (whole (factor law table x i y)) (exactRow law table p (i - 1) (x - y))))
+    times (whole (factor law table x i y)) (exactRow law table p (i - 1) (x - y))))
 
 -- "Row j ≥ 1 sums w(y) times the entry of row j-1 at x-y. The divisor is W."
 abbrev pub WholeConvolution : Type 0
