@@ -4,7 +4,7 @@ use lib.Dec.{T, eqb→eq}
 use lib.IntN.{ℤ, pos, negsuc, _*ℤ_}
 use Rattle.algebra.specs.Sum.{accumulate}
 use Rattle.algebra.proofs.Table.{each-passes}
-use Rattle.exact.specs.Fraction.{Fraction, over, whole, plus, times, overSuc, oneTo, zeroTo, _≈_}
+use Rattle.exact.specs.Fraction.{Fraction, over, whole, _⊕_, _⊗_, overSuc, oneTo, zeroTo, _≈_}
 use Rattle.exact.specs.Frequency.{a, b, withNext, countCoefficients, countCoefficient}
 use Rattle.exact.specs.Severity.{density, convolution}
 use Rattle.exact.specs.Amount.{exactAmount}
@@ -20,5 +20,5 @@ same-fraction : (x y : Fraction) → T (sameFraction x y) → x ≈ y
 same-fraction x y t = record { across = same-integer (x .upper *ℤ pos (y .lower)) (y .upper *ℤ pos (x .lower)) t }
 
 pub cases-hold : CasesHold
-unfolding exactAmount countCoefficient countCoefficients withNext a b convolution density oneTo zeroTo accumulate overSuc times plus whole over
+unfolding exactAmount countCoefficient countCoefficients withNext a b convolution density oneTo zeroTo accumulate overSuc _⊗_ _⊕_ whole over
 cases-hold c m = same-fraction (exactAmount (c .law) (c .table) (c .start) (c .total)) (c .amount) (each-passes Case test cases tt c m)

@@ -19,18 +19,18 @@ module _ (R : Semiring) where
   convolve f g x = sum R x (λ y. f (suc y) * g (x - suc y))
 
   -- the n-fold convolution of f
-  unfoldable pub fold : (ℕ → A) → ℕ → ℕ → A
-  fold f zero zero = 𝟙
-  fold f zero (suc x) = 𝟘
-  fold f (suc n) x = convolve f (fold f n) x
+  unfoldable pub power : (ℕ → A) → ℕ → ℕ → A
+  power f zero zero = 𝟙
+  power f zero (suc x) = 𝟘
+  power f (suc n) x = convolve f (power f n) x
 
   -- each value times its place
   unfoldable pub weighed : (ℕ → A) → ℕ → A
   weighed f x = nat R x * f x
 
-  pub fold-suc : (f : ℕ → A) (n x : ℕ) → fold f (suc n) x ≡ convolve f (fold f n) x
-  unfolding fold
-  fold-suc f n x = refl
+  pub power-suc : (f : ℕ → A) (n x : ℕ) → power f (suc n) x ≡ convolve f (power f n) x
+  unfolding power
+  power-suc f n x = refl
 
   -- only the places below x of the second sequence count
   pub convolve-right : (f : ℕ → A) {g h : ℕ → A} (x : ℕ) → ((z : ℕ) → z < x → g z ≡ h z) → convolve f g x ≡ convolve f h x
@@ -114,42 +114,42 @@ module _ (R : Semiring) where
 
   module _ (f : ℕ → A) where
     -- n severities of 1 or more come to n or more
-    pub fold-vanishes : (n x : ℕ) → x < n → fold f n x ≡ 𝟘
-    unfolding fold
-    fold-vanishes zero x h = absurd (NL.not-suc-le-zero h)
-    fold-vanishes (suc n) x h = convolve-vanishes f (fold f n) x (λ z l. fold-vanishes n z (omega arith))
+    pub power-vanishes : (n x : ℕ) → x < n → power f n x ≡ 𝟘
+    unfolding power
+    power-vanishes zero x h = absurd (NL.not-suc-le-zero h)
+    power-vanishes (suc n) x h = convolve-vanishes f (power f n) x (λ z l. power-vanishes n z (omega arith))
 
     -- the unit of convolutions stands at 0, which is not read
-    pub convolve-unit : (g : ℕ → A) (x : ℕ) → convolve (fold f 0) g x ≡ 𝟘
-    unfolding convolve fold
+    pub convolve-unit : (g : ℕ → A) (x : ℕ) → convolve (power f 0) g x ≡ 𝟘
+    unfolding convolve power
     convolve-unit g x = sum-vanishes R x _ (λ y l. zero-mul R (g (x - suc y)))
 
-    pub weighed-none : (x : ℕ) → nat R x * fold f 0 x ≡ 𝟘
-    unfolding fold
+    pub weighed-none : (x : ℕ) → nat R x * power f 0 x ≡ 𝟘
+    unfolding power
     weighed-none zero = ap (λ (v : A). v * 𝟙) (nat-zero R) ∙ zero-mul R 𝟙
     weighed-none (suc x) = R .mul-zero (nat R (suc x))
 
     -- the sum over the first severity y of y f(y) times the m-fold convolution of the others
-    unfoldable pub slope : ℕ → ℕ → A
-    slope m x = convolve (weighed f) (fold f m) x
+    unfoldable pub weighedFirst : ℕ → ℕ → A
+    weighedFirst m x = convolve (weighed f) (power f m) x
 
-    pub slope-vanishes : (m x : ℕ) → x ≤ m → slope m x ≡ 𝟘
-    unfolding slope
-    slope-vanishes m x h = convolve-vanishes (weighed f) (fold f m) x (λ z l. fold-vanishes m z (omega arith))
+    pub weighedFirst-vanishes : (m x : ℕ) → x ≤ m → weighedFirst m x ≡ 𝟘
+    unfolding weighedFirst
+    weighedFirst-vanishes m x h = convolve-vanishes (weighed f) (power f m) x (λ z l. power-vanishes m z (omega arith))
 
     one-more : (m : ℕ) (s : A) → s + nat R m * s ≡ nat R (suc m) * s
     one-more m s = sym (rw nat-suc (simp (ring, ring-units)))
 
     -- each of the m + 1 severities has the same share in their sum x
-    pub weighed-fold : (m x : ℕ) → nat R x * fold f (suc m) x ≡ nat R (suc m) * slope m x
-    unfolding fold slope weighed
-    weighed-fold zero x =
-        weighed-convolve f (fold f 0) x
-        ∙ ap (λ (v : A). slope 0 x + v) (convolve-vanishes f (weighed (fold f 0)) x (λ z l. weighed-none z))
-        ∙ R .add-zero (slope 0 x) ∙ sym (one-mul R (slope 0 x)) ∙ ap (λ (v : A). v * slope 0 x) (sym (nat-one R))
-    weighed-fold (suc m) x =
-        weighed-convolve f (fold f (suc m)) x
-        ∙ ap (λ (v : A). slope (suc m) x + v)
-        (convolve-right f x (λ z l. weighed-fold m z) ∙ convolve-scale f (slope m) (nat R (suc m)) x
-        ∙ ap (λ (v : A). nat R (suc m) * v) (convolve-swap f (weighed f) (fold f m) x))
-        ∙ one-more (suc m) (slope (suc m) x)
+    pub weighed-power : (m x : ℕ) → nat R x * power f (suc m) x ≡ nat R (suc m) * weighedFirst m x
+    unfolding power weighedFirst weighed
+    weighed-power zero x =
+        weighed-convolve f (power f 0) x
+        ∙ ap (λ (v : A). weighedFirst 0 x + v) (convolve-vanishes f (weighed (power f 0)) x (λ z l. weighed-none z))
+        ∙ R .add-zero (weighedFirst 0 x) ∙ sym (one-mul R (weighedFirst 0 x)) ∙ ap (λ (v : A). v * weighedFirst 0 x) (sym (nat-one R))
+    weighed-power (suc m) x =
+        weighed-convolve f (power f (suc m)) x
+        ∙ ap (λ (v : A). weighedFirst (suc m) x + v)
+        (convolve-right f x (λ z l. weighed-power m z) ∙ convolve-scale f (weighedFirst m) (nat R (suc m)) x
+        ∙ ap (λ (v : A). nat R (suc m) * v) (convolve-swap f (weighed f) (power f m) x))
+        ∙ one-more (suc m) (weighedFirst (suc m) x)

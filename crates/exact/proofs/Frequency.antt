@@ -10,14 +10,14 @@ use Rattle.algebra.specs.Semiring.{Semiring, nat}
 use Rattle.algebra.specs.Sum.{sum}
 use Rattle.algebra.proofs.Semiring.{ring}
 use Rattle.algebra.proofs.Sum.{accumulate-cong, sum-cong, sum-scale}
-use Rattle.exact.specs.Fraction.{Fraction, whole, plus, times, overSuc, oneTo}
+use Rattle.exact.specs.Fraction.{Fraction, whole, _⊕_, _⊗_, overSuc, oneTo}
 use Rattle.exact.specs.Frequency.{Frequency, a, b, withNext, countCoefficients, countCoefficient, CountEquations}
 use Rattle.exact.proofs.Value.{ℚ, value, value-plus, value-times, value-overSuc, value-oneTo}
 use Rattle.exact.proofs.Sundt.{SundtClass}
 
 oneTo-cong : (n : ℕ) {g h : ℕ → Fraction} → ((i : ℕ) → 1 ≤ i → i ≤ n → g i ≡ h i) → oneTo n g ≡ oneTo n h
 unfolding oneTo
-oneTo-cong n e = accumulate-cong (whole (pos 0)) plus n (λ i l. e (suc i) (omega arith) l)
+oneTo-cong n e = accumulate-cong (whole (pos 0)) _⊕_ n (λ i l. e (suc i) (omega arith) l)
 
 listed : (law : Frequency) (n j : ℕ) (d : Fraction) → j ≤ n → getD (countCoefficients law n) j d ≡ countCoefficient law (n - j)
 unfolding countCoefficients countCoefficient withNext
@@ -31,8 +31,8 @@ unfolding countCoefficients countCoefficient withNext
 count-equations law = (refl, later)
   where
     later : (n : ℕ) → countCoefficient law (suc n)
-        ≡ oneTo (min (law .order) (suc n)) (λ i. times (plus (a law i) (overSuc (b law i) n)) (countCoefficient law (suc n - i)))
-    later n = oneTo-cong (min (law .order) (suc n)) (λ i l u. ap (times (plus (a law i) (overSuc (b law i) n))) (place i l (omega arith)))
+        ≡ oneTo (min (law .order) (suc n)) (λ i. (a law i ⊕ overSuc (b law i) n) ⊗ countCoefficient law (suc n - i))
+    later n = oneTo-cong (min (law .order) (suc n)) (λ i l u. ap (λ (c : Fraction). (a law i ⊕ overSuc (b law i) n) ⊗ c) (place i l (omega arith)))
       where
         back : (i : ℕ) → 1 ≤ i → i ≤ suc n → n - (i - 1) ≡ suc n - i
         back i l u = omega arith
@@ -54,7 +54,7 @@ count-class law p n =
     ∙ sum-cong ℚ (min (law .order) (suc n)) (λ i l. each i)
   where
     summand : ℕ → Fraction
-    summand i = times (plus (a law i) (overSuc (b law i) n)) (countCoefficient law (suc n - i))
+    summand i = (a law i ⊕ overSuc (b law i) n) ⊗ countCoefficient law (suc n - i)
 
     move : (m p s : A) → m * (p * s) ≡ p * m * s
     move m p s = simp ring

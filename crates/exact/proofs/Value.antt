@@ -13,7 +13,7 @@ use Rattle.algebra.proofs.Sum.{sum-related}
 use Rattle.algebra.proofs.Integer.{integers}
 use Rattle.algebra.proofs.Rational.{rationals}
 use Rattle.algebra.proofs.Ratio.{ratio-same, ratio-nat, ratio-int, ratio-over}
-use Rattle.exact.specs.Fraction.{Fraction, over, whole, plus, times, overSuc, _≈_, _≼_, oneTo, zeroTo}
+use Rattle.exact.specs.Fraction.{Fraction, over, whole, _⊕_, _⊗_, overSuc, _≈_, _≼_, oneTo, zeroTo}
 
 abbrev pub order : OrderedRing
 order = rationals .order
@@ -46,12 +46,12 @@ unfolding value
 le-of-value {x} {y} h = record { across = rationals .ratio-le (x .upper) (y .upper) (x .lower) (y .lower) (x .lower-pos) (y .lower-pos) .0 h }
 
 -- ---- operations
-pub value-plus : (x y : Fraction) → value (plus x y) ≡ value x + value y
-unfolding value plus
+pub value-plus : (x y : Fraction) → value (x ⊕ y) ≡ value x + value y
+unfolding value _⊕_
 value-plus x y = rationals .ratio-add (x .upper) (y .upper) (x .lower) (y .lower) (x .lower-pos) (y .lower-pos)
 
-pub value-times : (x y : Fraction) → value (times x y) ≡ value x * value y
-unfolding value times
+pub value-times : (x y : Fraction) → value (x ⊗ y) ≡ value x * value y
+unfolding value _⊗_
 value-times x y = rationals .ratio-mul (x .upper) (y .upper) (x .lower) (y .lower) (x .lower-pos) (y .lower-pos)
 
 pub value-int : (z : ℤ) → value (whole z) ≡ int (order .ring) z
@@ -87,8 +87,8 @@ value-overSuc x n =
     across S n u l = simp (ring, ring-units)
 
 -- ---- sums
-value-accumulate : (n : ℕ) (g : ℕ → Fraction) → value (accumulate (whole (pos 0)) plus n g) ≡ sum ℚ n (λ i. value (g i))
-value-accumulate n g = sum-related (λ (x : Fraction) (v : A). value x ≡ v) (whole (pos 0)) plus 𝟘 _+_ value-zero
+value-accumulate : (n : ℕ) (g : ℕ → Fraction) → value (accumulate (whole (pos 0)) _⊕_ n g) ≡ sum ℚ n (λ i. value (g i))
+value-accumulate n g = sum-related (λ (x : Fraction) (v : A). value x ≡ v) (whole (pos 0)) _⊕_ 𝟘 _+_ value-zero
     (λ x y u v p q. value-plus x y ∙ ap₂ _+_ p q) n g (λ i. value (g i)) (λ i l. refl)
 
 pub value-oneTo : (n : ℕ) (g : ℕ → Fraction) → value (oneTo n g) ≡ sum ℚ n (λ i. value (g (suc i)))

@@ -20,15 +20,17 @@ over z n h = record { upper = z; lower = n; lower-pos = h }
 unfoldable pub whole : ℤ → Fraction
 whole z = over z 1 (NL.le-refl 1)
 
-unfoldable pub plus : Fraction → Fraction → Fraction
-plus x y = record {
+infixl 6 _⊕_
+unfoldable pub _⊕_ : Fraction → Fraction → Fraction
+x ⊕ y = record {
   upper = x .upper *ℤ pos (y .lower) +ℤ y .upper *ℤ pos (x .lower);
   lower = x .lower * y .lower;
   lower-pos = NL.mul-pos (x .lower-pos) (y .lower-pos);
 }
 
-unfoldable pub times : Fraction → Fraction → Fraction
-times x y = record {
+infixl 7 _⊗_
+unfoldable pub _⊗_ : Fraction → Fraction → Fraction
+x ⊗ y = record {
   upper = x .upper *ℤ y .upper;
   lower = x .lower * y .lower;
   lower-pos = NL.mul-pos (x .lower-pos) (y .lower-pos);
@@ -38,19 +40,20 @@ times x y = record {
 unfoldable pub overSuc : Fraction → ℕ → Fraction
 overSuc x n = record { upper = x .upper; lower = x .lower * suc n; lower-pos = NL.mul-pos (x .lower-pos) (NL.zero-lt-suc n) }
 
--- equal, and at most, by multiplying across
+-- equal, by multiplying across
 infix 4 _≈_
 pub record _≈_ (x y : Fraction) : Type 0 where
   pub across : x .upper *ℤ pos (y .lower) ≡ y .upper *ℤ pos (x .lower)
 
+-- at most, by multiplying across
 infix 4 _≼_
 pub record _≼_ (x y : Fraction) : Type 0 where
   pub across : (x .upper *ℤ pos (y .lower)) ≤ℤ (y .upper *ℤ pos (x .lower))
 
 -- g 1 + .. + g n
 unfoldable pub oneTo : ℕ → (ℕ → Fraction) → Fraction
-oneTo n g = accumulate (whole (pos 0)) plus n (λ i. g (suc i))
+oneTo n g = accumulate (whole (pos 0)) _⊕_ n (λ i. g (suc i))
 
 -- g 0 + .. + g n
 unfoldable pub zeroTo : ℕ → (ℕ → Fraction) → Fraction
-zeroTo n g = accumulate (whole (pos 0)) plus (suc n) g
+zeroTo n g = accumulate (whole (pos 0)) _⊕_ (suc n) g

@@ -4,7 +4,7 @@ use mathlib.Core.List.{List, [], _∷_}
 use Prim.Native.Nat.{ℕ, zero, suc, _-_, _≤_, min}
 use lib.IntN.{ℤ, pos}
 use lib.ListN.{getD}
-use Rattle.exact.specs.Fraction.{Fraction, over, whole, plus, times, overSuc, oneTo}
+use Rattle.exact.specs.Fraction.{Fraction, over, whole, _⊕_, _⊗_, overSuc, oneTo}
 
 -- order k, divisor D, and terms A_i and B_i for i from 1 to k
 pub record Frequency : Type 0 where
@@ -24,7 +24,7 @@ b law i = over (law .termB i) (law .divisor) (law .divisor-pos)
 -- P_(n+1), P_n, .., P_0 from the list P_n, .., P_0, in which P_(n+1-i) has place i - 1
 unfoldable pub withNext : Frequency → ℕ → List Fraction → List Fraction
 withNext law n earlier =
-    oneTo (min (law .order) (suc n)) (λ i. times (plus (a law i) (overSuc (b law i) n)) (getD earlier (i - 1) (whole (pos 0))))
+    oneTo (min (law .order) (suc n)) (λ i. (a law i ⊕ overSuc (b law i) n) ⊗ getD earlier (i - 1) (whole (pos 0)))
     ∷ earlier
 
 -- P_n, .., P_0
@@ -39,4 +39,4 @@ countCoefficient law n = getD (countCoefficients law n) 0 (whole (pos 0))
 -- "P_0 = 1, and for n ≥ 1, P_n is the sum over i from 1 to the smaller of k and n of (a_i + b_i/n) times P_(n-i)."
 abbrev pub CountEquations : Type 0
 CountEquations = (law : Frequency) → (countCoefficient law 0 ≡ whole (pos 1)) × ((n : ℕ) → countCoefficient law (suc n)
-    ≡ oneTo (min (law .order) (suc n)) (λ i. times (plus (a law i) (overSuc (b law i) n)) (countCoefficient law (suc n - i))))
+    ≡ oneTo (min (law .order) (suc n)) (λ i. (a law i ⊕ overSuc (b law i) n) ⊗ countCoefficient law (suc n - i)))

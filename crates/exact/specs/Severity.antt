@@ -3,7 +3,7 @@ use mathlib.Core.List.{List, [], _∷_}
 use Prim.Native.Nat.{ℕ, zero, suc, _+_, _-_, _≤_, _<_}
 use lib.IntN.{pos}
 use lib.ListN.{getD}
-use Rattle.exact.specs.Fraction.{Fraction, over, whole, times, oneTo, _≈_}
+use Rattle.exact.specs.Fraction.{Fraction, over, whole, _⊗_, oneTo, _≈_}
 
 -- W, the sum of the weights
 abbrev pub totalWeight : List ℕ → ℕ
@@ -29,7 +29,7 @@ density table y = over (pos (weight table y)) (totalWeight (table .weights)) (ta
 unfoldable pub convolution : (ℕ → Fraction) → ℕ → ℕ → Fraction
 convolution f zero zero = whole (pos 1)
 convolution f zero (suc x) = whole (pos 0)
-convolution f (suc n) x = oneTo x (λ y. times (f y) (convolution f n (x - y)))
+convolution f (suc n) x = oneTo x (λ y. f y ⊗ convolution f n (x - y))
 
 -- "Terms beyond n = x vanish, as every severity is at least 1."
 abbrev pub TermsVanish : Type 0
