@@ -153,8 +153,8 @@ integers = record {
     carrier = ℤ;
     𝟘 = pos 0;
     𝟙 = pos 1;
-    _+_ = _+ℤ_;
-    _*_ = _*ℤ_;
+    _⊹_ = _+ℤ_;
+    _·_ = _*ℤ_;
     add-comm = +ℤ-comm;
     add-assoc = +ℤ-assoc;
     add-zero = +ℤ-idr;
@@ -203,7 +203,7 @@ pub *ℤ-nonneg : (a b : ℤ) → pos 0 ≤ℤ a → pos 0 ≤ℤ b → pos 0 �
 abbrev pub integerOrder : OrderedRing
 integerOrder = record {
   ring = integers;
-  _≤_ = _≤ℤ_;
+  _⊑_ = _≤ℤ_;
   le-refl = ≤ℤ-refl;
   le-trans = ≤ℤ-trans;
   le-antisymm = ≤ℤ-antisymm;

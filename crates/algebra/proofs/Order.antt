@@ -2,14 +2,14 @@
 -- solver turns one form of a difference into another.
 use mathlib.Core.Path.{_≡_, refl, sym, _∙_, ap, subst₂}
 use mathlib.Core.List.{[], _∷_}
-use Prim.Native.Nat.{ℕ, zero, suc, _<_, _+_ as _+ℕ_, _-_ as _-ℕ_}
+use Prim.Native.Nat.{ℕ, zero, suc, _<_, _+_, _-_}
 use lib.IntN.{ℤ, pos, _+ℤ_}
 use lib.Signed.{_≤ℤ_}
 use Rattle.algebra.specs.Semiring.{Semiring, nat}
 use Rattle.algebra.specs.Ring.{Ring, int}
 use Rattle.algebra.specs.Order.{OrderedRing}
 use Rattle.algebra.specs.Sum.{sum}
-use Rattle.algebra.specs.Solver.{var, null, unit, _⊕_, _⊗_, ⊖_}
+use Rattle.algebra.specs.Solver.{var, null, unit, _:+_, _:*_, :-_}
 use Rattle.algebra.proofs.Semiring.{nat-zero, nat-suc}
 use Rattle.algebra.proofs.Ring.{int-pos, int-add}
 use Rattle.algebra.proofs.Solver.{solve}
@@ -17,89 +17,89 @@ use Rattle.algebra.proofs.Sum.{sum-related}
 use Rattle.algebra.proofs.Integer.{up, down, signed, split-add}
 
 module _ (O : OrderedRing) where
-  open OrderedRing O using (_≤_)
+  open OrderedRing O using (_⊑_)
   open Ring (O .ring) using (neg)
-  open Semiring (O .ring .semiring) using (carrier as A, 𝟘, 𝟙, _+_, _*_)
+  open Semiring (O .ring .semiring) using (carrier as A, 𝟘, 𝟙, _⊹_, _·_)
 
-  infix 4 _≤_
-  infixl 6 _+_
-  infixl 7 _*_
+  infix 4 _⊑_
+  infixl 6 _⊹_
+  infixl 7 _·_
   abbrev R : Ring
   R = O .ring
 
   -- the same order, its ends written otherwise
-  pub rewritten : {a b c d : A} → a ≤ b → a ≡ c → b ≡ d → c ≤ d
-  rewritten h p q = subst₂ (λ (x y : A). x ≤ y) p q h
+  pub rewritten : {a b c d : A} → a ⊑ b → a ≡ c → b ≡ d → c ⊑ d
+  rewritten h p q = subst₂ (λ (x y : A). x ⊑ y) p q h
 
-  pub le-of-eq : {a b : A} → a ≡ b → a ≤ b
+  pub le-of-eq : {a b : A} → a ≡ b → a ⊑ b
   le-of-eq {a} e = rewritten (O .le-refl a) refl e
 
-  pub add-mono : {a b c d : A} → a ≤ b → c ≤ d → a + c ≤ b + d
+  pub add-mono : {a b c d : A} → a ⊑ b → c ⊑ d → a ⊹ c ⊑ b ⊹ d
   add-mono {a} {b} {c} {d} h k =
       O .le-trans (O .add-le c h) (rewritten (O .add-le b k) (R .semiring .add-comm c b) (R .semiring .add-comm d b))
 
-  difference : {a b : A} → a ≤ b → 𝟘 ≤ b + neg a
+  difference : {a b : A} → a ⊑ b → 𝟘 ⊑ b ⊹ neg a
   difference {a} h = rewritten (O .add-le (neg a) h) (R .add-neg a) refl
 
-  of-difference : {a b : A} → 𝟘 ≤ b + neg a → a ≤ b
+  of-difference : {a b : A} → 𝟘 ⊑ b ⊹ neg a → a ⊑ b
   of-difference {a} {b} h = rewritten (O .add-le a h)
-      (solve R (a ∷ []) (null ⊕ var 0) (var 0) tt)
-      (solve R (a ∷ b ∷ []) (var 1 ⊕ ⊖ var 0 ⊕ var 0) (var 1) tt)
+      (solve R (a ∷ []) (null :+ var 0) (var 0) tt)
+      (solve R (a ∷ b ∷ []) (var 1 :+ :- var 0 :+ var 0) (var 1) tt)
 
-  pub neg-mono : {a b : A} → a ≤ b → neg b ≤ neg a
+  pub neg-mono : {a b : A} → a ⊑ b → neg b ⊑ neg a
   neg-mono {a} {b} h = of-difference (rewritten (difference h) refl
-      (solve R (a ∷ b ∷ []) (var 1 ⊕ ⊖ var 0) (⊖ var 0 ⊕ ⊖ ⊖ var 1) tt))
+      (solve R (a ∷ b ∷ []) (var 1 :+ :- var 0) (:- var 0 :+ :- :- var 1) tt))
 
   -- a factor that is zero or more keeps the order, one that is zero or less turns it
-  pub mul-mono : {a b : A} (c : A) → 𝟘 ≤ c → a ≤ b → c * a ≤ c * b
+  pub mul-mono : {a b : A} (c : A) → 𝟘 ⊑ c → a ⊑ b → c · a ⊑ c · b
   mul-mono {a} {b} c n h = of-difference (rewritten (O .mul-nonneg n (difference h)) refl
-      (solve R (a ∷ b ∷ c ∷ []) (var 2 ⊗ (var 1 ⊕ ⊖ var 0)) (var 2 ⊗ var 1 ⊕ ⊖ (var 2 ⊗ var 0)) tt))
+      (solve R (a ∷ b ∷ c ∷ []) (var 2 :* (var 1 :+ :- var 0)) (var 2 :* var 1 :+ :- (var 2 :* var 0)) tt))
 
-  pub mul-turn : {a b : A} (c : A) → c ≤ 𝟘 → a ≤ b → c * b ≤ c * a
+  pub mul-turn : {a b : A} (c : A) → c ⊑ 𝟘 → a ⊑ b → c · b ⊑ c · a
   mul-turn {a} {b} c n h = of-difference (rewritten (O .mul-nonneg (difference n) (difference h)) refl
-      (solve R (a ∷ b ∷ c ∷ []) ((null ⊕ ⊖ var 2) ⊗ (var 1 ⊕ ⊖ var 0)) (var 2 ⊗ var 0 ⊕ ⊖ (var 2 ⊗ var 1)) tt))
+      (solve R (a ∷ b ∷ c ∷ []) ((null :+ :- var 2) :* (var 1 :+ :- var 0)) (var 2 :* var 0 :+ :- (var 2 :* var 1)) tt))
 
   -- 1 is a square
-  one-nonneg : 𝟘 ≤ 𝟙
+  one-nonneg : 𝟘 ⊑ 𝟙
   one-nonneg = by (O .le-dec 𝟘 𝟙)
     where
-      by : Dec (𝟘 ≤ 𝟙) → 𝟘 ≤ 𝟙
+      by : Dec (𝟘 ⊑ 𝟙) → 𝟘 ⊑ 𝟙
       by (yes h) = h
       by (no f) =
-          let m : 𝟘 ≤ 𝟘 + neg 𝟙 = difference (O .le-total f) in
-          rewritten (O .mul-nonneg m m) refl (solve R [] ((null ⊕ ⊖ unit) ⊗ (null ⊕ ⊖ unit)) unit tt)
+          let m : 𝟘 ⊑ 𝟘 ⊹ neg 𝟙 = difference (O .le-total f) in
+          rewritten (O .mul-nonneg m m) refl (solve R [] ((null :+ :- unit) :* (null :+ :- unit)) unit tt)
 
-  pub nat-nonneg : (n : ℕ) → 𝟘 ≤ nat (R .semiring) n
+  pub nat-nonneg : (n : ℕ) → 𝟘 ⊑ nat (R .semiring) n
   nat-nonneg zero = le-of-eq (sym (nat-zero (R .semiring)))
   nat-nonneg (suc n) = rewritten (add-mono (nat-nonneg n) one-nonneg) (R .semiring .add-zero 𝟘) (sym (nat-suc (R .semiring) n))
 
   -- a positive natural factor may be divided out: were b below a, the difference would grow by the factor
-  pub mul-cancel-le : {a b : A} (n : ℕ) → nat (R .semiring) (suc n) * a ≤ nat (R .semiring) (suc n) * b → a ≤ b
+  pub mul-cancel-le : {a b : A} (n : ℕ) → nat (R .semiring) (suc n) · a ⊑ nat (R .semiring) (suc n) · b → a ⊑ b
   mul-cancel-le {a} {b} n h = by (O .le-dec a b)
     where
       m : A
       m = nat (R .semiring) n
 
-      by : Dec (a ≤ b) → a ≤ b
+      by : Dec (a ⊑ b) → a ⊑ b
       by (yes k) = k
       by (no f) =
-          let d : 𝟘 ≤ a + neg b = difference (O .le-total f) in
-          let h′ : (m + 𝟙) * a ≤ (m + 𝟙) * b = rw nat-suc at h in
-          let grown : 𝟘 ≤ m * (a + neg b) = O .mul-nonneg (nat-nonneg n) d in
+          let d : 𝟘 ⊑ a ⊹ neg b = difference (O .le-total f) in
+          let h′ : (m ⊹ 𝟙) · a ⊑ (m ⊹ 𝟙) · b = rw nat-suc at h in
+          let grown : 𝟘 ⊑ m · (a ⊹ neg b) = O .mul-nonneg (nat-nonneg n) d in
           of-difference (rewritten (add-mono grown (difference h′)) (R .semiring .add-zero 𝟘)
-          (solve R (a ∷ b ∷ m ∷ []) (var 2 ⊗ (var 0 ⊕ ⊖ var 1) ⊕ ((var 2 ⊕ unit) ⊗ var 1 ⊕ ⊖ ((var 2 ⊕ unit) ⊗ var 0))) (var 1 ⊕ ⊖ var 0) tt))
+          (solve R (a ∷ b ∷ m ∷ []) (var 2 :* (var 0 :+ :- var 1) :+ ((var 2 :+ unit) :* var 1 :+ :- ((var 2 :+ unit) :* var 0))) (var 1 :+ :- var 0) tt))
 
   -- terms in order, sums in order
-  pub sum-mono : (n : ℕ) {f g : ℕ → A} → ((i : ℕ) → i < n → f i ≤ g i) → sum (R .semiring) n f ≤ sum (R .semiring) n g
-  sum-mono n {f} {g} h = sum-related _≤_ 𝟘 _+_ 𝟘 _+_ (O .le-refl 𝟘) (λ a c b d p q. add-mono p q) n f g h
+  pub sum-mono : (n : ℕ) {f g : ℕ → A} → ((i : ℕ) → i < n → f i ⊑ g i) → sum (R .semiring) n f ⊑ sum (R .semiring) n g
+  sum-mono n {f} {g} h = sum-related _⊑_ 𝟘 _⊹_ 𝟘 _⊹_ (O .le-refl 𝟘) (λ a c b d p q. add-mono p q) n f g h
 
   -- the integers keep their order: b is a and a natural number more
-  pub int-mono : {a b : ℤ} → a ≤ℤ b → int R a ≤ int R b
+  pub int-mono : {a b : ℤ} → a ≤ℤ b → int R a ⊑ int R b
   int-mono {a} {b} h = rewritten (add-mono (O .le-refl (int R a)) (nat-nonneg rise)) (R .semiring .add-zero (int R a))
-      (ap (λ (v : A). int R a + v) (sym (int-pos R rise)) ∙ sym (int-add R a (pos rise)) ∙ ap (int R) (sym risen))
+      (ap (λ (v : A). int R a ⊹ v) (sym (int-pos R rise)) ∙ sym (int-add R a (pos rise)) ∙ ap (int R) (sym risen))
     where
       rise : ℕ
-      rise = up b +ℕ down a -ℕ (up a +ℕ down b)
+      rise = up b + down a - (up a + down b)
 
       risen : b ≡ a +ℤ pos rise
       risen = omega (signed, split-add a (pos rise))

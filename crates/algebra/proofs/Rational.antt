@@ -1,7 +1,7 @@
 -- The rational numbers as classes of pairs (a, p), a over p. The order on pairs is by multiplying across; pairs each of which is at
 -- most the other are one class. Every law is an identity of integers, proved over any semiring and used at ℤ.
 use mathlib.Core.Path.{_≡_, refl, sym, _∙_, ap}
-use Prim.Native.Nat.{ℕ, _≤_, _*_ as _*ℕ_}
+use Prim.Native.Nat.{ℕ, _≤_, _*_}
 use native.Mathlib.Nat as NL
 use std.Quotient.{_/_, cls, eq/, /-set, /-rec, /-rec₂, /-elim-prop, /-elim-prop₂, /-elim-prop₃, IsEquivRel, effective}
 use std.HProp.{HProp, HProp-set, HProp-ext}
@@ -18,44 +18,44 @@ use Rattle.algebra.proofs.Order.{rewritten, le-of-eq}
 
 -- ---- what the laws come to
 module _ (S : Semiring) where
-  open Semiring S using (carrier as A, 𝟘, 𝟙, _+_, _*_)
+  open Semiring S using (carrier as A, 𝟘, 𝟙, _⊹_, _·_)
 
-  infixl 6 _+_
-  infixl 7 _*_
-  turn : (a b c : A) → a * b * c ≡ a * c * b
+  infixl 6 _⊹_
+  infixl 7 _·_
+  turn : (a b c : A) → a · b · c ≡ a · c · b
   turn a b c = simp ring
 
-  spread : (a p c q r : A) → (a * q + c * p) * (r * q) ≡ a * r * (q * q) + c * q * (p * r)
+  spread : (a p c q r : A) → (a · q ⊹ c · p) · (r · q) ≡ a · r · (q · q) ⊹ c · q · (p · r)
   spread a p c q r = simp ring
 
-  spread′ : (a p c q r : A) → (a * q + c * p) * (r * q) ≡ a * r * (q * q) + c * q * (r * p)
+  spread′ : (a p c q r : A) → (a · q ⊹ c · p) · (r · q) ≡ a · r · (q · q) ⊹ c · q · (r · p)
   spread′ a p c q r = simp ring
 
-  add-commutes : (a p c q : A) → (a * q + c * p) * (q * p) ≡ (c * p + a * q) * (p * q)
+  add-commutes : (a p c q : A) → (a · q ⊹ c · p) · (q · p) ≡ (c · p ⊹ a · q) · (p · q)
   add-commutes a p c q = simp ring
 
-  add-associates : (a p c q e r : A) → ((a * q + c * p) * r + e * (p * q)) * (p * (q * r)) ≡ (a * (q * r) + (c * r + e * q) * p) * (p * q * r)
+  add-associates : (a p c q e r : A) → ((a · q ⊹ c · p) · r ⊹ e · (p · q)) · (p · (q · r)) ≡ (a · (q · r) ⊹ (c · r ⊹ e · q) · p) · (p · q · r)
   add-associates a p c q e r = simp ring
 
-  add-nothing : (a p : A) → (a * 𝟙 + 𝟘 * p) * p ≡ a * (p * 𝟙)
+  add-nothing : (a p : A) → (a · 𝟙 ⊹ 𝟘 · p) · p ≡ a · (p · 𝟙)
   add-nothing a p = simp (ring, ring-units)
 
-  mul-across : (a c q r : A) → a * c * (r * q) ≡ a * r * (c * q)
+  mul-across : (a c q r : A) → a · c · (r · q) ≡ a · r · (c · q)
   mul-across a c q r = simp ring
 
-  mul-commutes : (a p c q : A) → a * c * (q * p) ≡ c * a * (p * q)
+  mul-commutes : (a p c q : A) → a · c · (q · p) ≡ c · a · (p · q)
   mul-commutes a p c q = simp ring
 
-  mul-associates : (a p c q e r : A) → a * c * e * (p * (q * r)) ≡ a * (c * e) * (p * q * r)
+  mul-associates : (a p c q e r : A) → a · c · e · (p · (q · r)) ≡ a · (c · e) · (p · q · r)
   mul-associates a p c q e r = simp ring
 
-  mul-unit : (a p : A) → a * 𝟙 * p ≡ a * (p * 𝟙)
+  mul-unit : (a p : A) → a · 𝟙 · p ≡ a · (p · 𝟙)
   mul-unit a p = simp ring-units
 
-  mul-null : (a p : A) → a * 𝟘 * 𝟙 ≡ 𝟘 * (p * 𝟙)
+  mul-null : (a p : A) → a · 𝟘 · 𝟙 ≡ 𝟘 · (p · 𝟙)
   mul-null a p = simp ring-units
 
-  mul-distributes : (a p c q e r : A) → a * (c * r + e * q) * (p * q * (p * r)) ≡ (a * c * (p * r) + a * e * (p * q)) * (p * (q * r))
+  mul-distributes : (a p c q e r : A) → a · (c · r ⊹ e · q) · (p · q · (p · r)) ≡ (a · c · (p · r) ⊹ a · e · (p · q)) · (p · (q · r))
   mul-distributes a p c q e r = simp ring
 
 abbrev Z : Semiring
@@ -115,12 +115,12 @@ pair a p h = record { upper = a; lower = p; positive = h }
 plus : Pair → Pair → Pair
 plus x y = record {
   upper = x .upper *ℤ below y +ℤ y .upper *ℤ below x;
-  lower = x .lower *ℕ y .lower;
+  lower = x .lower * y .lower;
   positive = NL.mul-pos (x .positive) (y .positive);
 }
 
 times : Pair → Pair → Pair
-times x y = record { upper = x .upper *ℤ y .upper; lower = x .lower *ℕ y .lower; positive = NL.mul-pos (x .positive) (y .positive) }
+times x y = record { upper = x .upper *ℤ y .upper; lower = x .lower * y .lower; positive = NL.mul-pos (x .positive) (y .positive) }
 
 minus : Pair → Pair
 minus x = record { upper = negℤ (x .upper); lower = x .lower; positive = x .positive }
@@ -168,8 +168,8 @@ plus-minus : (x : Pair) → plus x (minus x) ≈ whole (pos 0)
 unfolding plus minus whole
 plus-minus x = record { across = cancels integers (x .upper) (below x) }
   where
-    cancels : (R : Ring) (a p : R .semiring .carrier) → R .semiring ._*_ (R .semiring ._+_ (R .semiring ._*_ a p) (R .semiring ._*_ (R .neg a) p)) (R .semiring .𝟙) ≡ R .semiring ._*_ (R .semiring .𝟘) (R .semiring ._*_ p p)
-    cancels R a p = rw (R .semiring .mul-one, neg-mul, R .add-neg) (sym (zero-mul (R .semiring) (R .semiring ._*_ p p)))
+    cancels : (R : Ring) (a p : R .semiring .carrier) → R .semiring ._·_ (R .semiring ._⊹_ (R .semiring ._·_ a p) (R .semiring ._·_ (R .neg a) p)) (R .semiring .𝟙) ≡ R .semiring ._·_ (R .semiring .𝟘) (R .semiring ._·_ p p)
+    cancels R a p = rw (R .semiring .mul-one, neg-mul, R .add-neg) (sym (zero-mul (R .semiring) (R .semiring ._·_ p p)))
 
 -- ---- classes of pairs
 ℚ : Type 0
@@ -247,8 +247,8 @@ ringℚ = record {
     carrier = ℚ;
     𝟘 = class (whole (pos 0));
     𝟙 = class (whole (pos 1));
-    _+_ = _+ℚ_;
-    _*_ = _*ℚ_;
+    _⊹_ = _+ℚ_;
+    _·_ = _*ℚ_;
     add-comm = add-comm;
     add-assoc = add-assoc;
     add-zero = add-zero;
@@ -315,7 +315,7 @@ unfolding ℚ leℚ orderly _+ℚ_ plus
 add-le = /-elim-prop₃ (λ a b c. a ≤ℚ b → a +ℚ c ≤ℚ b +ℚ c) (λ a b c. Π-prop (λ _. leℚ (a +ℚ c) (b +ℚ c) .1))
     (λ x y z h. record {
       across = rewritten integerOrder
-          (+ℤ-mono (z .upper *ℤ below z *ℤ (below x *ℤ below y)) (*ℤ-mono (z .lower *ℕ z .lower) (h .across)))
+          (+ℤ-mono (z .upper *ℤ below z *ℤ (below x *ℤ below y)) (*ℤ-mono (z .lower * z .lower) (h .across)))
           (sym (spread Z (x .upper) (below x) (z .upper) (below z) (below y)))
           (sym (spread′ Z (y .upper) (below y) (z .upper) (below z) (below x)));
     })
@@ -324,7 +324,7 @@ mul-nonneg : (a b : ℚ) → class (whole (pos 0)) ≤ℚ a → class (whole (po
 unfolding ℚ leℚ orderly class _*ℚ_ times whole
 mul-nonneg = /-elim-prop₂ (λ a b. class (whole (pos 0)) ≤ℚ a → class (whole (pos 0)) ≤ℚ b → class (whole (pos 0)) ≤ℚ a *ℚ b)
     (λ a b. Π-prop (λ _. Π-prop (λ _. leℚ (class (whole (pos 0))) (a *ℚ b) .1)))
-    (λ x y h k. record { across = over-one (x .upper *ℤ y .upper) (x .lower *ℕ y .lower) (*ℤ-nonneg (x .upper) (y .upper) (upper x h) (upper y k)) })
+    (λ x y h k. record { across = over-one (x .upper *ℤ y .upper) (x .lower * y .lower) (*ℤ-nonneg (x .upper) (y .upper) (upper x h) (upper y k)) })
   where
     upper : (x : Pair) → whole (pos 0) ≼ x → pos 0 ≤ℤ x .upper
     upper x h = omega (signed, split-mul (pos 0) (below x), split-mul (x .upper) (pos 1), h .across)
@@ -337,7 +337,7 @@ unfolding ℚ class ringℚ leℚ orderly pair whole plus times _+ℚ_ _*ℚ_
 rationals = record {
   order = record {
     ring = ringℚ;
-    _≤_ = _≤ℚ_;
+    _⊑_ = _≤ℚ_;
     le-refl = le-refl;
     le-trans = λ {a} {b} {c} h k. le-trans a b c h k;
     le-antisymm = λ {a} {b} h k. le-antisymm a b h k;

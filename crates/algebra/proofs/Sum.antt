@@ -1,6 +1,6 @@
 -- Finite sums, each law by induction on the number of terms.
 use mathlib.Core.Path.{_≡_, refl, sym, _∙_, ap, ap₂}
-use Prim.Native.Nat.{ℕ, zero, suc, _-_, _<_, _≤_, min, _+_ as _+ℕ_}
+use Prim.Native.Nat.{ℕ, zero, suc, _-_, _<_, _≤_, min, _+_}
 use native.Mathlib.Nat as NL
 use native.Mathlib.Decide.{decLe}
 use native.Mathlib.Omega.{arith}
@@ -21,60 +21,60 @@ pub accumulate-cong : {A : Type 0} (𝟘 : A) (plus : A → A → A) (n : ℕ) {
 accumulate-cong 𝟘 plus n {f} {g} h = sum-related _≡_ 𝟘 plus 𝟘 plus refl (λ a c b d p q. ap₂ plus p q) n f g h
 
 module _ (R : Semiring) where
-  open Semiring R using (carrier as A, 𝟘, _+_, _*_)
+  open Semiring R using (carrier as A, 𝟘, _⊹_, _·_)
 
-  infixl 6 _+_
-  infixl 7 _*_
+  infixl 6 _⊹_
+  infixl 7 _·_
   pub sum-cong : (n : ℕ) {f g : ℕ → A} → ((i : ℕ) → i < n → f i ≡ g i) → sum R n f ≡ sum R n g
-  sum-cong n h = accumulate-cong 𝟘 _+_ n h
+  sum-cong n h = accumulate-cong 𝟘 _⊹_ n h
 
   pub sum-zero : (f : ℕ → A) → sum R 0 f ≡ 𝟘
   unfolding accumulate
   sum-zero f = refl
 
-  pub sum-suc : (n : ℕ) (f : ℕ → A) → sum R (suc n) f ≡ sum R n f + f n
+  pub sum-suc : (n : ℕ) (f : ℕ → A) → sum R (suc n) f ≡ sum R n f ⊹ f n
   unfolding accumulate
   sum-suc n f = refl
 
   pub sum-add : SumAdd R
   unfolding accumulate
   sum-add zero f g = sym (R .add-zero 𝟘)
-  sum-add (suc n) f g = ap (λ (x : A). x + (f n + g n)) (sum-add n f g) ∙ simp ring
+  sum-add (suc n) f g = ap (λ (x : A). x ⊹ (f n ⊹ g n)) (sum-add n f g) ∙ simp ring
 
   pub sum-scale : SumScale R
   unfolding accumulate
   sum-scale zero a f = R .mul-zero a
-  sum-scale (suc n) a f = R .mul-add a (sum R n f) (f n) ∙ ap (λ (x : A). x + a * f n) (sum-scale n a f)
+  sum-scale (suc n) a f = R .mul-add a (sum R n f) (f n) ∙ ap (λ (x : A). x ⊹ a · f n) (sum-scale n a f)
 
-  pub sum-scale-right : (n : ℕ) (a : A) (f : ℕ → A) → sum R n f * a ≡ sum R n (λ i. f i * a)
+  pub sum-scale-right : (n : ℕ) (a : A) (f : ℕ → A) → sum R n f · a ≡ sum R n (λ i. f i · a)
   sum-scale-right n a f = R .mul-comm (sum R n f) a ∙ sum-scale n a f ∙ sum-cong n (λ i l. R .mul-comm a (f i))
 
   pub sum-vanishes : (n : ℕ) (f : ℕ → A) → ((i : ℕ) → i < n → f i ≡ 𝟘) → sum R n f ≡ 𝟘
   unfolding accumulate
   sum-vanishes zero f h = refl
-  sum-vanishes (suc n) f h = ap₂ _+_ (sum-vanishes n f (λ i l. h i (omega arith))) (h n (omega arith)) ∙ R .add-zero 𝟘
+  sum-vanishes (suc n) f h = ap₂ _⊹_ (sum-vanishes n f (λ i l. h i (omega arith))) (h n (omega arith)) ∙ R .add-zero 𝟘
 
   pub sum-exchange : SumExchange R
   unfolding accumulate
   sum-exchange zero n F = sym (sum-vanishes n (λ j. 𝟘) (λ j l. refl))
-  sum-exchange (suc m) n F = ap (λ (x : A). x + sum R n (λ j. F m j)) (sum-exchange m n F)
+  sum-exchange (suc m) n F = ap (λ (x : A). x ⊹ sum R n (λ j. F m j)) (sum-exchange m n F)
       ∙ sym (sum-add n (λ j. sum R m (λ i. F i j)) (λ j. F m j))
 
   pub sum-shift : SumShift R
   unfolding accumulate
   sum-shift zero f = R .add-comm 𝟘 (f 0)
-  sum-shift (suc n) f = ap (λ (x : A). x + f (suc n)) (sum-shift n f)
+  sum-shift (suc n) f = ap (λ (x : A). x ⊹ f (suc n)) (sum-shift n f)
       ∙ R .add-assoc (f 0) (sum R n (λ i. f (suc i))) (f (suc n))
 
   -- d terms more add nothing, where they are zero
-  pub sum-extend : (m d : ℕ) (f : ℕ → A) → ((i : ℕ) → m ≤ i → f i ≡ 𝟘) → sum R (d +ℕ m) f ≡ sum R m f
+  pub sum-extend : (m d : ℕ) (f : ℕ → A) → ((i : ℕ) → m ≤ i → f i ≡ 𝟘) → sum R (d + m) f ≡ sum R m f
   sum-extend m zero f h = rw NL.zero-add
-  sum-extend m (suc d) f h = rw (NL.suc-add, sum-suc, h (d +ℕ m) (omega arith), R .add-zero) (sum-extend m d f h)
+  sum-extend m (suc d) f h = rw (NL.suc-add, sum-suc, h (d + m) (omega arith), R .add-zero) (sum-extend m d f h)
 
   pub sum-cut : SumCut R
   sum-cut n m f h = by (decLe n m)
     where
-      apart : ¬ (n ≤ m) → n ≡ (n - m) +ℕ m
+      apart : ¬ (n ≤ m) → n ≡ (n - m) + m
       apart l = omega arith
 
       by : Dec (n ≤ m) → sum R n f ≡ sum R (min n m) f
@@ -85,7 +85,7 @@ module _ (R : Semiring) where
   sum-reverse : (n : ℕ) (f : ℕ → A) → sum R n f ≡ sum R n (λ i. f (n - suc i))
   sum-reverse zero f = sum-zero f ∙ sym (sum-zero (λ i. f (0 - suc i)))
   sum-reverse (suc n) f = sum-suc n f ∙ R .add-comm (sum R n f) (f n)
-      ∙ ap₂ _+_ (ap f (omega arith)) (sum-reverse n f ∙ sum-cong n (λ i l. ap f (omega arith)))
+      ∙ ap₂ _⊹_ (ap f (omega arith)) (sum-reverse n f ∙ sum-cong n (λ i l. ap f (omega arith)))
       ∙ sym (sum-shift n (λ i. f (suc n - suc i)))
 
   -- a triangle of side n + 1 is one of side n and one diagonal more
@@ -93,10 +93,10 @@ module _ (R : Semiring) where
   sum-diagonals zero F = sum-zero (λ y. sum R (0 - suc y) (λ z. F y z)) ∙ sym (sum-zero (λ u. sum R u (λ y. F y (u - suc y))))
   sum-diagonals (suc n) F =
       sum-suc n (λ y. sum R (suc n - suc y) (λ z. F y z))
-      ∙ ap₂ _+_ (sum-cong n longer ∙ sum-add n (λ y. sum R (n - suc y) (λ z. F y z)) (λ y. F y (n - suc y)))
+      ∙ ap₂ _⊹_ (sum-cong n longer ∙ sum-add n (λ y. sum R (n - suc y) (λ z. F y z)) (λ y. F y (n - suc y)))
       (ap (λ (k : ℕ). sum R k (λ z. F n z)) none ∙ sum-zero (λ z. F n z))
       ∙ R .add-zero _
-      ∙ ap (λ (x : A). x + sum R n (λ y. F y (n - suc y))) (sum-diagonals n F)
+      ∙ ap (λ (x : A). x ⊹ sum R n (λ y. F y (n - suc y))) (sum-diagonals n F)
       ∙ sym (sum-suc n (λ u. sum R u (λ y. F y (u - suc y))))
     where
       step : (y : ℕ) → y < n → suc n - suc y ≡ suc (n - suc y)
@@ -105,7 +105,7 @@ module _ (R : Semiring) where
       none : suc n - suc n ≡ 0
       none = omega arith
 
-      longer : (y : ℕ) → y < n → sum R (suc n - suc y) (λ z. F y z) ≡ sum R (n - suc y) (λ z. F y z) + F y (n - suc y)
+      longer : (y : ℕ) → y < n → sum R (suc n - suc y) (λ z. F y z) ≡ sum R (n - suc y) (λ z. F y z) ⊹ F y (n - suc y)
       longer y l = ap (λ (k : ℕ). sum R k (λ z. F y z)) (step y l) ∙ sum-suc (n - suc y) (λ z. F y z)
 
   -- a diagonal reads the same from both ends

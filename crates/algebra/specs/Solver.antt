@@ -7,27 +7,27 @@ use Prim.Native.Nat.{ℕ, zero}
 use lib.Dec.{T, leb, eqb}
 use lib.IntN.{ℤ, pos, negsuc, _+ℤ_, _*ℤ_}
 use lib.ListN.{getD}
-use Rattle.algebra.specs.Ring.{Ring}
+use Rattle.algebra.specs.Ring.{Ring, Number}
 
-infixl 6 _⊕_
-infixl 7 _⊗_
-infix 8 ⊖_
+infixl 6 _:+_
+infixl 7 _:*_
+infix 8 :-_
 pub data Expr : Type 0 where
   var : ℕ → Expr
   null : Expr
   unit : Expr
-  _⊕_ : Expr → Expr → Expr
-  _⊗_ : Expr → Expr → Expr
-  ⊖_ : Expr → Expr
+  _:+_ : Expr → Expr → Expr
+  _:*_ : Expr → Expr → Expr
+  :-_ : Expr → Expr
 
 -- what an expression stands for: variable v is the number at place v of the list
-abbrev pub eval : (R : Ring) → List (R .semiring .carrier) → Expr → R .semiring .carrier
+abbrev pub eval : (R : Ring) → List (Number R) → Expr → Number R
 eval R ρ (var v) = getD ρ v (R .semiring .𝟘)
 eval R ρ null = R .semiring .𝟘
 eval R ρ unit = R .semiring .𝟙
-eval R ρ (e ⊕ g) = R .semiring ._+_ (eval R ρ e) (eval R ρ g)
-eval R ρ (e ⊗ g) = R .semiring ._*_ (eval R ρ e) (eval R ρ g)
-eval R ρ (⊖ e) = R .neg (eval R ρ e)
+eval R ρ (e :+ g) = R .semiring ._⊹_ (eval R ρ e) (eval R ρ g)
+eval R ρ (e :* g) = R .semiring ._·_ (eval R ρ e) (eval R ρ g)
+eval R ρ (:- e) = R .neg (eval R ρ e)
 
 -- ---- polynomials: lists of terms, each a coefficient and its variables in order
 pub data Term : Type 0 where
@@ -67,9 +67,9 @@ abbrev pub poly : Expr → List Term
 poly (var v) = term (pos 1) (v ∷ []) ∷ []
 poly null = []
 poly unit = term (pos 1) [] ∷ []
-poly (e ⊕ g) = addPoly (poly e) (poly g)
-poly (e ⊗ g) = mulPoly (poly e) (poly g)
-poly (⊖ e) = mulTerm (negsuc 0) [] (poly e)
+poly (e :+ g) = addPoly (poly e) (poly g)
+poly (e :* g) = mulPoly (poly e) (poly g)
+poly (:- e) = mulTerm (negsuc 0) [] (poly e)
 
 abbrev pub isZero : ℤ → Bool
 isZero (pos n) = eqb n 0
@@ -82,4 +82,4 @@ vanishes (term c m ∷ p) = elim (isZero c) [ true ↦ vanishes p | false ↦ fa
 
 -- ---- what the solver promises
 abbrev pub Solves : Ring → Type 0
-Solves R = (ρ : List (R .semiring .carrier)) (e g : Expr) → T (vanishes (poly (e ⊕ ⊖ g))) → eval R ρ e ≡ eval R ρ g
+Solves R = (ρ : List (Number R)) (e g : Expr) → T (vanishes (poly (e :+ :- g))) → eval R ρ e ≡ eval R ρ g

@@ -1,6 +1,6 @@
 -- Finite sums: the definition, for any zero and any plus, and what sums over a commutative semiring obey.
 use mathlib.Core.Path.{_≡_}
-use Prim.Native.Nat.{ℕ, zero, suc, _-_, _≤_, _<_, min, _+_ as _+ℕ_}
+use Prim.Native.Nat.{ℕ, zero, suc, _-_, _≤_, _<_, min, _+_}
 use lib.IntN.{ℤ, pos, _+ℤ_}
 use Rattle.algebra.specs.Semiring.{Semiring}
 
@@ -10,10 +10,10 @@ accumulate 𝟘 plus zero f = 𝟘
 accumulate 𝟘 plus (suc n) f = plus (accumulate 𝟘 plus n f) (f n)
 
 abbrev pub sum : (R : Semiring) → ℕ → (ℕ → R .carrier) → R .carrier
-sum R = accumulate (R .𝟘) (R ._+_)
+sum R = accumulate (R .𝟘) (R ._⊹_)
 
 abbrev pub sumℕ : ℕ → (ℕ → ℕ) → ℕ
-sumℕ = accumulate 0 _+ℕ_
+sumℕ = accumulate 0 _+_
 
 abbrev pub sumℤ : ℕ → (ℕ → ℤ) → ℤ
 sumℤ = accumulate (pos 0) _+ℤ_
@@ -26,17 +26,17 @@ SumRelated A B = (Rel : A → B → Type 0) (𝟘 : A) (plus : A → A → A) (�
     → Rel (accumulate 𝟘 plus n f) (accumulate 𝟘′ plus′ n g)
 
 module _ (R : Semiring) where
-  open Semiring R using (carrier as A, 𝟘, _+_, _*_)
+  open Semiring R using (carrier as A, 𝟘, _⊹_, _·_)
 
-  infixl 6 _+_
-  infixl 7 _*_
+  infixl 6 _⊹_
+  infixl 7 _·_
   -- a sum of sums
   abbrev pub SumAdd : Type 0
-  SumAdd = (n : ℕ) (f g : ℕ → A) → sum R n (λ i. f i + g i) ≡ sum R n f + sum R n g
+  SumAdd = (n : ℕ) (f g : ℕ → A) → sum R n (λ i. f i ⊹ g i) ≡ sum R n f ⊹ sum R n g
 
   -- a common factor
   abbrev pub SumScale : Type 0
-  SumScale = (n : ℕ) (a : A) (f : ℕ → A) → a * sum R n f ≡ sum R n (λ i. a * f i)
+  SumScale = (n : ℕ) (a : A) (f : ℕ → A) → a · sum R n f ≡ sum R n (λ i. a · f i)
 
   -- two sums change places
   abbrev pub SumExchange : Type 0
@@ -44,7 +44,7 @@ module _ (R : Semiring) where
 
   -- the first term apart, and the others moved up by one
   abbrev pub SumShift : Type 0
-  SumShift = (n : ℕ) (f : ℕ → A) → sum R (suc n) f ≡ f 0 + sum R n (λ i. f (suc i))
+  SumShift = (n : ℕ) (f : ℕ → A) → sum R (suc n) f ≡ f 0 ⊹ sum R n (λ i. f (suc i))
 
   -- of n terms only the first m count, where the others are zero
   abbrev pub SumCut : Type 0

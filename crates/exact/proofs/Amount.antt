@@ -11,9 +11,9 @@ use Rattle.exact.specs.Amount.{exactAmount, exactRow}
 use Rattle.exact.proofs.Value.{ℚ, value, eq-of-value, value-times, value-zero, value-one, value-oneTo, value-zeroTo}
 use Rattle.exact.proofs.Convolution.{convolve, power, power-vanishes}
 use Rattle.exact.proofs.Sundt.{row, row-next}
-open Semiring ℚ using (carrier as A, _*_)
+open Semiring ℚ using (carrier as A, _·_)
 
-infixl 7 _*_
+infixl 7 _·_
 pub value-convolution : (f : ℕ → Fraction) (n x : ℕ) → value (convolution f n x) ≡ power ℚ (λ y. value (f y)) n x
 unfolding convolution power convolve
 value-convolution f zero zero = value-one
@@ -21,7 +21,7 @@ value-convolution f zero (suc x) = value-zero
 value-convolution f (suc n) x =
     value-oneTo x (λ y. f y ⊗ convolution f n (x - y))
     ∙ sum-cong ℚ x (λ y l. value-times (f (suc y)) (convolution f n (x - suc y))
-    ∙ ap (λ (v : A). value (f (suc y)) * v) (value-convolution f n (x - suc y)))
+    ∙ ap (λ (v : A). value (f (suc y)) · v) (value-convolution f n (x - suc y)))
 
 pub terms-vanish : TermsVanish
 terms-vanish f n x h = eq-of-value (value-convolution f n x ∙ power-vanishes ℚ (λ y. value (f y)) n x h ∙ sym value-zero)
@@ -29,16 +29,16 @@ terms-vanish f n x h = eq-of-value (value-convolution f n x ∙ power-vanishes �
 module _ (law : Frequency) (table : Severity) (p : Fraction) where
   -- row j at x over the rational numbers
   unfoldable pub valueRow : ℕ → ℕ → A
-  valueRow = row ℚ (λ y. value (density table y)) (λ n. value p * value (countCoefficient law n))
+  valueRow = row ℚ (λ y. value (density table y)) (λ n. value p · value (countCoefficient law n))
 
   pub value-amount : (x : ℕ) → value (exactAmount law table p x) ≡ valueRow 0 x
   unfolding exactAmount valueRow row
   value-amount x =
-      value-times p (zeroTo x summand) ∙ ap (λ (v : A). value p * v) (value-zeroTo x summand)
+      value-times p (zeroTo x summand) ∙ ap (λ (v : A). value p · v) (value-zeroTo x summand)
       ∙ sum-scale ℚ (suc x) (value p) (λ n. value (summand n))
-      ∙ sum-cong ℚ (suc x) (λ n l. ap (λ (v : A). value p * v) (value-times (countCoefficient law n) (convolution (density table) n x))
+      ∙ sum-cong ℚ (suc x) (λ n l. ap (λ (v : A). value p · v) (value-times (countCoefficient law n) (convolution (density table) n x))
       ∙ sym (ℚ .mul-assoc (value p) (value (countCoefficient law n)) (value (convolution (density table) n x)))
-      ∙ ap (λ (v : A). value p * value (countCoefficient law n) * v) (value-convolution (density table) n x
+      ∙ ap (λ (v : A). value p · value (countCoefficient law n) · v) (value-convolution (density table) n x
       ∙ ap (λ (m : ℕ). power ℚ (λ y. value (density table y)) m x) (sym (NL.add-zero n))))
     where
       summand : ℕ → Fraction
@@ -50,5 +50,5 @@ module _ (law : Frequency) (table : Severity) (p : Fraction) where
   value-row (suc j) x =
       value-oneTo x (λ y. density table y ⊗ exactRow law table p j (x - y))
       ∙ sum-cong ℚ x (λ y l. value-times (density table (suc y)) (exactRow law table p j (x - suc y))
-      ∙ ap (λ (v : A). value (density table (suc y)) * v) (value-row j (x - suc y)))
-      ∙ sym (row-next ℚ (λ y. value (density table y)) (λ n. value p * value (countCoefficient law n)) j x)
+      ∙ ap (λ (v : A). value (density table (suc y)) · v) (value-row j (x - suc y)))
+      ∙ sym (row-next ℚ (λ y. value (density table y)) (λ n. value p · value (countCoefficient law n)) j x)

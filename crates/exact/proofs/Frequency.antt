@@ -40,31 +40,31 @@ count-equations law = (refl, later)
         place : (i : ℕ) → 1 ≤ i → i ≤ suc n → getD (countCoefficients law n) (i - 1) (whole (pos 0)) ≡ countCoefficient law (suc n - i)
         place i l u = listed law n (i - 1) (whole (pos 0)) (omega arith) ∙ ap (countCoefficient law) (back i l u)
 
-open Semiring ℚ using (carrier as A, _+_, _*_)
+open Semiring ℚ using (carrier as A, _⊹_, _·_)
 
-infixl 6 _+_
-infixl 7 _*_
+infixl 6 _⊹_
+infixl 7 _·_
 -- the class has every multiple of its sequences
 pub count-class : (law : Frequency) (p : A)
-    → SundtClass ℚ (law .order) (λ i. value (a law i)) (λ i. value (b law i)) (λ n. p * value (countCoefficient law n))
+    → SundtClass ℚ (law .order) (λ i. value (a law i)) (λ i. value (b law i)) (λ n. p · value (countCoefficient law n))
 count-class law p n =
-    ap (λ (v : A). nat ℚ (suc n) * (p * v)) (ap value (count-equations law .1 n) ∙ value-oneTo (min (law .order) (suc n)) summand)
+    ap (λ (v : A). nat ℚ (suc n) · (p · v)) (ap value (count-equations law .1 n) ∙ value-oneTo (min (law .order) (suc n)) summand)
     ∙ move (nat ℚ (suc n)) p (sum ℚ (min (law .order) (suc n)) (λ i. value (summand (suc i))))
-    ∙ sum-scale ℚ (min (law .order) (suc n)) (p * nat ℚ (suc n)) (λ i. value (summand (suc i)))
+    ∙ sum-scale ℚ (min (law .order) (suc n)) (p · nat ℚ (suc n)) (λ i. value (summand (suc i)))
     ∙ sum-cong ℚ (min (law .order) (suc n)) (λ i l. each i)
   where
     summand : ℕ → Fraction
     summand i = (a law i ⊕ overSuc (b law i) n) ⊗ countCoefficient law (suc n - i)
 
-    move : (m p s : A) → m * (p * s) ≡ p * m * s
+    move : (m p s : A) → m · (p · s) ≡ p · m · s
     move m p s = simp ring
 
-    spread : (p m u v c : A) → p * m * ((u + v) * c) ≡ (m * u + m * v) * (p * c)
+    spread : (p m u v c : A) → p · m · ((u ⊹ v) · c) ≡ (m · u ⊹ m · v) · (p · c)
     spread p m u v c = simp ring
 
-    each : (i : ℕ) → p * nat ℚ (suc n) * value (summand (suc i))
-        ≡ (nat ℚ (suc n) * value (a law (suc i)) + value (b law (suc i))) * (p * value (countCoefficient law (suc n - suc i)))
+    each : (i : ℕ) → p · nat ℚ (suc n) · value (summand (suc i))
+        ≡ (nat ℚ (suc n) · value (a law (suc i)) ⊹ value (b law (suc i))) · (p · value (countCoefficient law (suc n - suc i)))
     each i =
-        ap (λ (v : A). p * nat ℚ (suc n) * v) (rw (value-times, value-plus) refl)
+        ap (λ (v : A). p · nat ℚ (suc n) · v) (rw (value-times, value-plus) refl)
         ∙ spread p (nat ℚ (suc n)) (value (a law (suc i))) (value (overSuc (b law (suc i)) n)) (value (countCoefficient law (suc n - suc i)))
-        ∙ ap (λ (v : A). (nat ℚ (suc n) * value (a law (suc i)) + v) * (p * value (countCoefficient law (suc n - suc i)))) (value-overSuc (b law (suc i)) n)
+        ∙ ap (λ (v : A). (nat ℚ (suc n) · value (a law (suc i)) ⊹ v) · (p · value (countCoefficient law (suc n - suc i)))) (value-overSuc (b law (suc i)) n)

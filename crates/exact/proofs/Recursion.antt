@@ -1,7 +1,7 @@
 -- Sundt's recursion for the exact amounts: each statement is an equation between rational numbers, which the recursion over a semiring
 -- gives. The factors become whole by multiplying with the divisor and the total weight, and weights past the table's end drop out.
 use mathlib.Core.Path.{_≡_, sym, _∙_, ap, ap₂}
-use Prim.Native.Nat.{ℕ, suc, _-_, _≤_, min, _*_ as _*ℕ_}
+use Prim.Native.Nat.{ℕ, suc, _-_, _≤_, min, _*_}
 use native.Mathlib.Omega.{arith}
 use lib.IntN.{ℤ, pos}
 use lib.ListN.{length, List·getD-eq-default}
@@ -21,28 +21,28 @@ use Rattle.exact.proofs.Convolution.{convolve}
 use Rattle.exact.proofs.Sundt.{row-next, sundt-rows, sundt-published}
 use Rattle.exact.proofs.Frequency.{count-equations, count-class}
 use Rattle.exact.proofs.Amount.{value-convolution, valueRow, value-amount, value-row}
-open Semiring ℚ using (carrier as A, 𝟘, _+_, _*_)
+open Semiring ℚ using (carrier as A, 𝟘, _⊹_, _·_)
 
-infixl 6 _+_
-infixl 7 _*_
+infixl 6 _⊹_
+infixl 7 _·_
 back : (i : ℕ) → suc i - 1 ≡ i
 back i = omega arith
 
 module _ (law : Frequency) (table : Severity) (p : Fraction) where
-  rows-value : (x : ℕ) → nat ℚ x * valueRow law table p 0 x
+  rows-value : (x : ℕ) → nat ℚ x · valueRow law table p 0 x
       ≡ sum ℚ (law .order) (λ i. sum ℚ x (λ y.
-      (nat ℚ x * value (a law (suc i)) + nat ℚ (suc y) * value (b law (suc i))) * value (density table (suc y)) * valueRow law table p i (x - suc y)))
+      (nat ℚ x · value (a law (suc i)) ⊹ nat ℚ (suc y) · value (b law (suc i))) · value (density table (suc y)) · valueRow law table p i (x - suc y)))
   unfolding valueRow
   rows-value x = sundt-rows ℚ (λ y. value (density table y)) (law .order) (λ i. value (a law i)) (λ i. value (b law i))
-      (λ n. value p * value (countCoefficient law n)) (count-class law (value p)) x
+      (λ n. value p · value (countCoefficient law n)) (count-class law (value p)) x
 
-  published-value : (x : ℕ) → nat ℚ x * valueRow law table p 0 x
-      ≡ sum ℚ x (λ y. valueRow law table p 0 (x - suc y) * sum ℚ (law .order) (λ i.
-      (nat ℚ x * value (a law (suc i)) + nat ℚ (suc y) * value (overSuc (b law (suc i)) i)) * value (convolution (density table) (suc i) (suc y))))
+  published-value : (x : ℕ) → nat ℚ x · valueRow law table p 0 x
+      ≡ sum ℚ x (λ y. valueRow law table p 0 (x - suc y) · sum ℚ (law .order) (λ i.
+      (nat ℚ x · value (a law (suc i)) ⊹ nat ℚ (suc y) · value (overSuc (b law (suc i)) i)) · value (convolution (density table) (suc i) (suc y))))
   unfolding valueRow
   published-value x =
       sundt-published ℚ (λ y. value (density table y)) (law .order) (λ i. value (a law i)) (λ i. value (b law i))
-      (λ n. value p * value (countCoefficient law n)) (count-class law (value p))
+      (λ n. value p · value (countCoefficient law n)) (count-class law (value p))
       (λ i. value (overSuc (b law (suc i)) i)) (λ i. value-overSuc (b law (suc i)) i) x
       ∙ simp value-convolution
 
@@ -53,24 +53,20 @@ pub published-recursion : PublishedRecursion
 published-recursion law table p x = eq-of-value (simp (value-oneTo, value-times, value-plus, value-amount, value-nat, back) (published-value law table p x))
 
 -- ---- whole factors
-module _ (R : Semiring) where
-  open Semiring R using (carrier as B, _+_ as _⊹_, _*_ as _·_)
+-- D W ((x a + y b) f e) is (A x + B y) w e, where D a = A, D b = B and W f = w
+cleared : (D W x y a b f e A′ B′ w : A) → D · a ≡ A′ → D · b ≡ B′ → W · f ≡ w
+    → D · W · ((x · a ⊹ y · b) · f · e) ≡ (A′ · x ⊹ B′ · y) · w · e
+cleared D W x y a b f e A′ B′ w p q r =
+    spread ∙ ap₂ (λ (u v : A). (u · x ⊹ v · y) · (W · f) · e) p q ∙ ap (λ (u : A). (A′ · x ⊹ B′ · y) · u · e) r
+  where
+    spread : D · W · ((x · a ⊹ y · b) · f · e) ≡ (D · a · x ⊹ D · b · y) · (W · f) · e
+    spread = simp ring
 
-  infixl 6 _⊹_
-  infixl 7 _·_
-  -- D W ((x a + y b) f e) is (A x + B y) w e, where D a = A, D b = B and W f = w
-  cleared : (D W x y a b f e A′ B′ w : B) → D · a ≡ A′ → D · b ≡ B′ → W · f ≡ w → D · W · ((x · a ⊹ y · b) · f · e) ≡ (A′ · x ⊹ B′ · y) · w · e
-  cleared D W x y a b f e A′ B′ w p q r =
-      spread ∙ ap₂ (λ (u v : B). (u · x ⊹ v · y) · (W · f) · e) p q ∙ ap (λ (u : B). (A′ · x ⊹ B′ · y) · u · e) r
-    where
-      spread : D · W · ((x · a ⊹ y · b) · f · e) ≡ (D · a · x ⊹ D · b · y) · (W · f) · e
-      spread = simp ring
-
-  turned : (D x W e : B) → D · x · W · e ≡ D · W · (x · e)
-  turned D x W e = simp ring
+turned : (D x W e : A) → D · x · W · e ≡ D · W · (x · e)
+turned D x W e = simp ring
 
 int-factor : (law : Frequency) (table : Severity) (x i y : ℕ) → int (order .ring) (factor law table x i y)
-    ≡ (int (order .ring) (law .termA i) * nat ℚ x + int (order .ring) (law .termB i) * nat ℚ y) * nat ℚ (weight table y)
+    ≡ (int (order .ring) (law .termA i) · nat ℚ x ⊹ int (order .ring) (law .termB i) · nat ℚ y) · nat ℚ (weight table y)
 unfolding factor
 int-factor law table x i y = simp (int-mul, int-add, int-pos)
 
@@ -85,55 +81,55 @@ module _ (law : Frequency) (table : Severity) (p : Fraction) where
   W : A
   W = nat ℚ (totalWeight (table .weights))
 
-  over-divisor : (z : ℤ) → D * value (over z (law .divisor) (law .divisor-pos)) ≡ int (order .ring) z
+  over-divisor : (z : ℤ) → D · value (over z (law .divisor) (law .divisor-pos)) ≡ int (order .ring) z
   unfolding D
   over-divisor z = value-over z (law .divisor) (law .divisor-pos)
 
-  over-total : (y : ℕ) → W * value (density table y) ≡ nat ℚ (weight table y)
+  over-total : (y : ℕ) → W · value (density table y) ≡ nat ℚ (weight table y)
   unfolding W density
   over-total y = value-over (pos (weight table y)) (totalWeight (table .weights)) (table .total-pos) ∙ int-pos (order .ring) (weight table y)
 
   -- the recursion over the rational numbers, with whole factors
-  pub recursion-value : (x : ℕ) → nat ℚ (law .divisor *ℕ x *ℕ totalWeight (table .weights)) * valueRow law table p 0 x
-      ≡ sum ℚ (law .order) (λ i. sum ℚ (min x (length (table .weights))) (λ y. int (order .ring) (factor law table x (suc i) (suc y)) * valueRow law table p i (x - suc y)))
+  pub recursion-value : (x : ℕ) → nat ℚ (law .divisor * x * totalWeight (table .weights)) · valueRow law table p 0 x
+      ≡ sum ℚ (law .order) (λ i. sum ℚ (min x (length (table .weights))) (λ y. int (order .ring) (factor law table x (suc i) (suc y)) · valueRow law table p i (x - suc y)))
   unfolding D W a b
   recursion-value x =
-      ap (λ (v : A). v * valueRow law table p 0 x) (nat-mul ℚ (law .divisor *ℕ x) (totalWeight (table .weights)) ∙ ap (λ (v : A). v * W) (nat-mul ℚ (law .divisor) x))
-      ∙ turned ℚ D (nat ℚ x) W (valueRow law table p 0 x)
-      ∙ ap (λ (v : A). D * W * v) (rows-value law table p x)
-      ∙ sum-scale ℚ (law .order) (D * W) (λ i. sum ℚ x (entry i))
-      ∙ sum-cong ℚ (law .order) (λ i l. sum-scale ℚ x (D * W) (entry i) ∙ sum-cong ℚ x (λ y m. each i y)
+      ap (λ (v : A). v · valueRow law table p 0 x) (nat-mul ℚ (law .divisor * x) (totalWeight (table .weights)) ∙ ap (λ (v : A). v · W) (nat-mul ℚ (law .divisor) x))
+      ∙ turned D (nat ℚ x) W (valueRow law table p 0 x)
+      ∙ ap (λ (v : A). D · W · v) (rows-value law table p x)
+      ∙ sum-scale ℚ (law .order) (D · W) (λ i. sum ℚ x (entry i))
+      ∙ sum-cong ℚ (law .order) (λ i l. sum-scale ℚ x (D · W) (entry i) ∙ sum-cong ℚ x (λ y m. each i y)
       ∙ sum-cut ℚ x (length (table .weights)) (wholeEntry i) (λ y m. none i y m))
     where
       entry : ℕ → ℕ → A
-      entry i y = (nat ℚ x * value (a law (suc i)) + nat ℚ (suc y) * value (b law (suc i))) * value (density table (suc y)) * valueRow law table p i (x - suc y)
+      entry i y = (nat ℚ x · value (a law (suc i)) ⊹ nat ℚ (suc y) · value (b law (suc i))) · value (density table (suc y)) · valueRow law table p i (x - suc y)
 
       wholeEntry : ℕ → ℕ → A
-      wholeEntry i y = int (order .ring) (factor law table x (suc i) (suc y)) * valueRow law table p i (x - suc y)
+      wholeEntry i y = int (order .ring) (factor law table x (suc i) (suc y)) · valueRow law table p i (x - suc y)
 
-      each : (i y : ℕ) → D * W * entry i y ≡ wholeEntry i y
+      each : (i y : ℕ) → D · W · entry i y ≡ wholeEntry i y
       each i y =
-          cleared ℚ D W (nat ℚ x) (nat ℚ (suc y)) (value (a law (suc i))) (value (b law (suc i))) (value (density table (suc y))) (valueRow law table p i (x - suc y))
+          cleared D W (nat ℚ x) (nat ℚ (suc y)) (value (a law (suc i))) (value (b law (suc i))) (value (density table (suc y))) (valueRow law table p i (x - suc y))
           (int (order .ring) (law .termA (suc i))) (int (order .ring) (law .termB (suc i))) (nat ℚ (weight table (suc y)))
           (over-divisor (law .termA (suc i))) (over-divisor (law .termB (suc i))) (over-total (suc y))
-          ∙ ap (λ (v : A). v * valueRow law table p i (x - suc y)) (sym (int-factor law table x (suc i) (suc y)))
+          ∙ ap (λ (v : A). v · valueRow law table p i (x - suc y)) (sym (int-factor law table x (suc i) (suc y)))
 
       none : (i y : ℕ) → length (table .weights) ≤ y → wholeEntry i y ≡ 𝟘
       none i y m =
-          ap (λ (v : A). v * valueRow law table p i (x - suc y)) (int-factor law table x (suc i) (suc y)
-          ∙ ap (λ (w : ℕ). (int (order .ring) (law .termA (suc i)) * nat ℚ x + int (order .ring) (law .termB (suc i)) * nat ℚ (suc y)) * nat ℚ w) (weight-past table y m))
+          ap (λ (v : A). v · valueRow law table p i (x - suc y)) (int-factor law table x (suc i) (suc y)
+          ∙ ap (λ (w : ℕ). (int (order .ring) (law .termA (suc i)) · nat ℚ x ⊹ int (order .ring) (law .termB (suc i)) · nat ℚ (suc y)) · nat ℚ w) (weight-past table y m))
           ∙ simp (nat-zero, ring-units)
 
-  pub convolution-value : (j x : ℕ) → nat ℚ (totalWeight (table .weights)) * valueRow law table p (suc j) x
-      ≡ sum ℚ (min x (length (table .weights))) (λ y. nat ℚ (weight table (suc y)) * valueRow law table p j (x - suc y))
+  pub convolution-value : (j x : ℕ) → nat ℚ (totalWeight (table .weights)) · valueRow law table p (suc j) x
+      ≡ sum ℚ (min x (length (table .weights))) (λ y. nat ℚ (weight table (suc y)) · valueRow law table p j (x - suc y))
   unfolding W valueRow convolve
   convolution-value j x =
-      ap (λ (v : A). W * v) (row-next ℚ (λ y. value (density table y)) (λ n. value p * value (countCoefficient law n)) j x)
-      ∙ sum-scale ℚ x W (λ y. value (density table (suc y)) * valueRow law table p j (x - suc y))
+      ap (λ (v : A). W · v) (row-next ℚ (λ y. value (density table y)) (λ n. value p · value (countCoefficient law n)) j x)
+      ∙ sum-scale ℚ x W (λ y. value (density table (suc y)) · valueRow law table p j (x - suc y))
       ∙ sum-cong ℚ x (λ y l. sym (ℚ .mul-assoc W (value (density table (suc y))) (valueRow law table p j (x - suc y)))
-      ∙ ap (λ (v : A). v * valueRow law table p j (x - suc y)) (over-total (suc y)))
-      ∙ sum-cut ℚ x (length (table .weights)) (λ y. nat ℚ (weight table (suc y)) * valueRow law table p j (x - suc y))
-      (λ y m. ap (λ (w : ℕ). nat ℚ w * valueRow law table p j (x - suc y)) (weight-past table y m) ∙ simp (nat-zero, ring-units))
+      ∙ ap (λ (v : A). v · valueRow law table p j (x - suc y)) (over-total (suc y)))
+      ∙ sum-cut ℚ x (length (table .weights)) (λ y. nat ℚ (weight table (suc y)) · valueRow law table p j (x - suc y))
+      (λ y m. ap (λ (w : ℕ). nat ℚ w · valueRow law table p j (x - suc y)) (weight-past table y m) ∙ simp (nat-zero, ring-units))
 
   pub first-value : valueRow law table p 0 0 ≡ value p
   unfolding exactAmount zeroTo accumulate convolution
@@ -141,7 +137,7 @@ module _ (law : Frequency) (table : Severity) (p : Fraction) where
 
   pub first-further : (j : ℕ) → valueRow law table p (suc j) 0 ≡ 𝟘
   unfolding valueRow convolve
-  first-further j = row-next ℚ (λ y. value (density table y)) (λ n. value p * value (countCoefficient law n)) j 0 ∙ sum-zero ℚ _
+  first-further j = row-next ℚ (λ y. value (density table y)) (λ n. value p · value (countCoefficient law n)) j 0 ∙ sum-zero ℚ _
 
 pub whole-recursion : WholeRecursion
 whole-recursion law table p x = eq-of-value (simp (value-oneTo, value-times, value-amount, value-row, value-nat, value-int, back) (recursion-value law table p x))
