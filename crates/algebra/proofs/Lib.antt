@@ -1,13 +1,14 @@
+-- Bottom up: what a file cites stands above it.
 pub mod Semiring
 pub mod Sum
+pub mod Natural
 pub mod Integer
+pub mod Size
 pub mod Ring
 pub mod Solver
 pub mod Order
 pub mod Rational
 pub mod Ratio
-pub mod Size
-pub mod Natural
 pub mod Smallest
-pub mod Table
 pub mod Row
+pub mod Table

@@ -80,14 +80,17 @@ module _ (O : OrderedRing) where
       m : A
       m = nat (R .semiring) n
 
+      shrunk : (a b m : A) → m · (a ⊹ neg b) ⊹ ((m ⊹ 𝟙) · b ⊹ neg ((m ⊹ 𝟙) · a)) ≡ b ⊹ neg a
+      shrunk a b m = solve R (a ∷ b ∷ m ∷ [])
+          (var 2 :* (var 0 :+ :- var 1) :+ ((var 2 :+ unit) :* var 1 :+ :- ((var 2 :+ unit) :* var 0))) (var 1 :+ :- var 0) tt
+
       by : Dec (a ⊑ b) → a ⊑ b
       by (yes k) = k
       by (no f) =
           let d : 𝟘 ⊑ a ⊹ neg b = difference (O .le-total f) in
           let h′ : (m ⊹ 𝟙) · a ⊑ (m ⊹ 𝟙) · b = rw nat-suc at h in
           let grown : 𝟘 ⊑ m · (a ⊹ neg b) = O .mul-nonneg (nat-nonneg n) d in
-          of-difference (rewritten (add-mono grown (difference h′)) (R .semiring .add-zero 𝟘)
-          (solve R (a ∷ b ∷ m ∷ []) (var 2 :* (var 0 :+ :- var 1) :+ ((var 2 :+ unit) :* var 1 :+ :- ((var 2 :+ unit) :* var 0))) (var 1 :+ :- var 0) tt))
+          of-difference (rewritten (add-mono grown (difference h′)) (R .semiring .add-zero 𝟘) (shrunk a b m))
 
   -- terms in order, sums in order
   pub sum-mono : (n : ℕ) {f g : ℕ → A} → ((i : ℕ) → i < n → f i ⊑ g i) → sum (R .semiring) n f ⊑ sum (R .semiring) n g

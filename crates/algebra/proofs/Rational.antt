@@ -13,7 +13,8 @@ use Rattle.algebra.specs.Ring.{Ring}
 use Rattle.algebra.specs.Rational.{Rationals}
 use Rattle.algebra.proofs.Semiring.{ring, ring-units, zero-mul}
 use Rattle.algebra.proofs.Ring.{neg-mul}
-use Rattle.algebra.proofs.Integer.{integers, integerOrder, signed, split-mul, ≤ℤ-trans, ≤ℤ-antisymm, ≤ℤ-dec, ≤ℤ-total, ≤ℤ-prop, +ℤ-mono, *ℤ-nonneg, *ℤ-mono, *ℤ-cancel-le}
+use Rattle.algebra.proofs.Integer.{integers, integerOrder, signed, split-mul, ≤ℤ-trans, ≤ℤ-antisymm, ≤ℤ-dec, ≤ℤ-total, ≤ℤ-prop}
+use Rattle.algebra.proofs.Integer.{+ℤ-mono, *ℤ-nonneg, *ℤ-mono, *ℤ-cancel-le}
 use Rattle.algebra.proofs.Order.{rewritten, le-of-eq}
 
 -- ---- what the laws come to
@@ -34,7 +35,8 @@ module _ (S : Semiring) where
   add-commutes : (a p c q : A) → (a · q ⊹ c · p) · (q · p) ≡ (c · p ⊹ a · q) · (p · q)
   add-commutes a p c q = simp ring
 
-  add-associates : (a p c q e r : A) → ((a · q ⊹ c · p) · r ⊹ e · (p · q)) · (p · (q · r)) ≡ (a · (q · r) ⊹ (c · r ⊹ e · q) · p) · (p · q · r)
+  add-associates : (a p c q e r : A)
+      → ((a · q ⊹ c · p) · r ⊹ e · (p · q)) · (p · (q · r)) ≡ (a · (q · r) ⊹ (c · r ⊹ e · q) · p) · (p · q · r)
   add-associates a p c q e r = simp ring
 
   add-nothing : (a p : A) → (a · 𝟙 ⊹ 𝟘 · p) · p ≡ a · (p · 𝟙)
@@ -55,8 +57,18 @@ module _ (S : Semiring) where
   mul-null : (a p : A) → a · 𝟘 · 𝟙 ≡ 𝟘 · (p · 𝟙)
   mul-null a p = simp ring-units
 
-  mul-distributes : (a p c q e r : A) → a · (c · r ⊹ e · q) · (p · q · (p · r)) ≡ (a · c · (p · r) ⊹ a · e · (p · q)) · (p · (q · r))
+  mul-distributes : (a p c q e r : A)
+      → a · (c · r ⊹ e · q) · (p · q · (p · r)) ≡ (a · c · (p · r) ⊹ a · e · (p · q)) · (p · (q · r))
   mul-distributes a p c q e r = simp ring
+
+module _ (R : Ring) where
+  open Semiring (R .semiring) using (carrier as A, 𝟘, 𝟙, _⊹_, _·_)
+  open Ring R using (neg)
+
+  infixl 6 _⊹_
+  infixl 7 _·_
+  cancels : (a p : A) → (a · p ⊹ neg a · p) · 𝟙 ≡ 𝟘 · (p · p)
+  cancels a p = rw (R .semiring .mul-one, neg-mul, R .add-neg) (sym (zero-mul (R .semiring) (p · p)))
 
 abbrev Z : Semiring
 Z = integers .semiring
@@ -95,7 +107,8 @@ record _≼_ (x y : Pair) : Type 0 where
 ≼-trans : (x y z : Pair) → x ≼ y → y ≼ z → x ≼ z
 ≼-trans x y z h k = record {
   across = *ℤ-cancel-le (y .lower) (y .positive) (≤ℤ-trans
-      (rewritten integerOrder (*ℤ-mono (z .lower) (h .across)) (turn Z (x .upper) (below y) (below z)) (turn Z (y .upper) (below x) (below z)))
+      (rewritten integerOrder (*ℤ-mono (z .lower) (h .across))
+      (turn Z (x .upper) (below y) (below z)) (turn Z (y .upper) (below x) (below z)))
       (rewritten integerOrder (*ℤ-mono (x .lower) (k .across)) refl (turn Z (z .upper) (below y) (below x))));
 }
 
@@ -140,9 +153,6 @@ plus-left x x′ y e = record {
       ∙ sym (spread′ Z (x′ .upper) (below x′) (y .upper) (below y) (below x));
 }
 
-plus-right : (x y y′ : Pair) → y ≈ y′ → plus x y ≈ plus x y′
-plus-right x y y′ e = ≈-trans _ _ _ (plus-comm x y) (≈-trans _ _ _ (plus-left y y′ x e) (plus-comm y′ x))
-
 times-comm : (x y : Pair) → times x y ≈ times y x
 unfolding times
 times-comm x y = record { across = mul-commutes Z (x .upper) (below x) (y .upper) (below y) }
@@ -155,9 +165,6 @@ times-left x x′ y e = record {
       ∙ sym (mul-across Z (x′ .upper) (y .upper) (below y) (below x));
 }
 
-times-right : (x y y′ : Pair) → y ≈ y′ → times x y ≈ times x y′
-times-right x y y′ e = ≈-trans _ _ _ (times-comm x y) (≈-trans _ _ _ (times-left y y′ x e) (times-comm y′ x))
-
 minus-resp : (x x′ : Pair) → x ≈ x′ → minus x ≈ minus x′
 unfolding minus
 minus-resp x x′ e = record {
@@ -167,9 +174,6 @@ minus-resp x x′ e = record {
 plus-minus : (x : Pair) → plus x (minus x) ≈ whole (pos 0)
 unfolding plus minus whole
 plus-minus x = record { across = cancels integers (x .upper) (below x) }
-  where
-    cancels : (R : Ring) (a p : R .semiring .carrier) → R .semiring ._·_ (R .semiring ._⊹_ (R .semiring ._·_ a p) (R .semiring ._·_ (R .neg a) p)) (R .semiring .𝟙) ≡ R .semiring ._·_ (R .semiring .𝟘) (R .semiring ._·_ p p)
-    cancels R a p = rw (R .semiring .mul-one, neg-mul, R .add-neg) (sym (zero-mul (R .semiring) (R .semiring ._·_ p p)))
 
 -- ---- classes of pairs
 ℚ : Type 0
@@ -184,15 +188,27 @@ class-eq : (x y : Pair) → x ≈ y → class x ≡ class y
 unfolding ℚ class
 class-eq x y e = eq/ x y e
 
+-- a commutative operation on pairs that keeps ≈ on the left gives one on classes
+module _ (op : Pair → Pair → Pair) (comm : (x y : Pair) → op x y ≈ op y x) (left : (x x′ y : Pair) → x ≈ x′ → op x y ≈ op x′ y) where
+  right : (x y y′ : Pair) → y ≈ y′ → op x y ≈ op x y′
+  right x y y′ e = ≈-trans _ _ _ (comm x y) (≈-trans _ _ _ (left y y′ x e) (comm y′ x))
+
+  lifted : ℚ → ℚ → ℚ
+  unfolding ℚ /-rec₂
+  lifted = /-rec₂ /-set (λ x y. cls (op x y))
+      (λ x x′ y e. eq/ (op x y) (op x′ y) (left x x′ y e)) (λ x y y′ e. eq/ (op x y) (op x y′) (right x y y′ e))
+
+  lifted-comm : (a b : ℚ) → lifted a b ≡ lifted b a
+  unfolding ℚ lifted
+  lifted-comm = /-elim-prop₂ (λ a b. lifted a b ≡ lifted b a) (λ a b. /-set _ _) (λ x y. eq/ (op x y) (op y x) (comm x y))
+
 infixl 6 _+ℚ_
 _+ℚ_ : ℚ → ℚ → ℚ
-unfolding ℚ /-rec₂
-_+ℚ_ = /-rec₂ /-set (λ x y. cls (plus x y)) (λ x x′ y e. eq/ (plus x y) (plus x′ y) (plus-left x x′ y e)) (λ x y y′ e. eq/ (plus x y) (plus x y′) (plus-right x y y′ e))
+_+ℚ_ = lifted plus plus-comm plus-left
 
 infixl 7 _*ℚ_
 _*ℚ_ : ℚ → ℚ → ℚ
-unfolding ℚ /-rec₂
-_*ℚ_ = /-rec₂ /-set (λ x y. cls (times x y)) (λ x x′ y e. eq/ (times x y) (times x′ y) (times-left x x′ y e)) (λ x y y′ e. eq/ (times x y) (times x y′) (times-right x y y′ e))
+_*ℚ_ = lifted times times-comm times-left
 
 negℚ : ℚ → ℚ
 unfolding ℚ /-rec
@@ -200,46 +216,50 @@ negℚ = /-rec /-set (λ x. cls (minus x)) (λ x x′ e. eq/ (minus x) (minus x�
 
 -- ---- the ring
 add-comm : (a b : ℚ) → a +ℚ b ≡ b +ℚ a
-unfolding ℚ _+ℚ_
-add-comm = /-elim-prop₂ (λ a b. a +ℚ b ≡ b +ℚ a) (λ a b. /-set _ _) (λ x y. eq/ (plus x y) (plus y x) (plus-comm x y))
+unfolding _+ℚ_
+add-comm = lifted-comm plus plus-comm plus-left
 
 add-assoc : (a b c : ℚ) → a +ℚ b +ℚ c ≡ a +ℚ (b +ℚ c)
-unfolding ℚ _+ℚ_ plus
+unfolding ℚ lifted _+ℚ_ plus
 add-assoc = /-elim-prop₃ (λ a b c. a +ℚ b +ℚ c ≡ a +ℚ (b +ℚ c)) (λ a b c. /-set _ _)
-    (λ x y z. eq/ (plus (plus x y) z) (plus x (plus y z)) (record { across = add-associates Z (x .upper) (below x) (y .upper) (below y) (z .upper) (below z) }))
+    (λ x y z. eq/ (plus (plus x y) z) (plus x (plus y z))
+    (record { across = add-associates Z (x .upper) (below x) (y .upper) (below y) (z .upper) (below z) }))
 
 add-zero : (a : ℚ) → a +ℚ class (whole (pos 0)) ≡ a
-unfolding ℚ _+ℚ_ class plus whole
+unfolding ℚ lifted _+ℚ_ class plus whole
 add-zero = /-elim-prop (λ a. a +ℚ class (whole (pos 0)) ≡ a) (λ a. /-set _ _)
     (λ x. eq/ (plus x (whole (pos 0))) x (record { across = add-nothing Z (x .upper) (below x) }))
 
 add-neg : (a : ℚ) → a +ℚ negℚ a ≡ class (whole (pos 0))
-unfolding ℚ _+ℚ_ negℚ class
-add-neg = /-elim-prop (λ a. a +ℚ negℚ a ≡ class (whole (pos 0))) (λ a. /-set _ _) (λ x. eq/ (plus x (minus x)) (whole (pos 0)) (plus-minus x))
+unfolding ℚ lifted _+ℚ_ negℚ class
+add-neg = /-elim-prop (λ a. a +ℚ negℚ a ≡ class (whole (pos 0))) (λ a. /-set _ _)
+    (λ x. eq/ (plus x (minus x)) (whole (pos 0)) (plus-minus x))
 
 mul-comm : (a b : ℚ) → a *ℚ b ≡ b *ℚ a
-unfolding ℚ _*ℚ_
-mul-comm = /-elim-prop₂ (λ a b. a *ℚ b ≡ b *ℚ a) (λ a b. /-set _ _) (λ x y. eq/ (times x y) (times y x) (times-comm x y))
+unfolding _*ℚ_
+mul-comm = lifted-comm times times-comm times-left
 
 mul-assoc : (a b c : ℚ) → a *ℚ b *ℚ c ≡ a *ℚ (b *ℚ c)
-unfolding ℚ _*ℚ_ times
+unfolding ℚ lifted _*ℚ_ times
 mul-assoc = /-elim-prop₃ (λ a b c. a *ℚ b *ℚ c ≡ a *ℚ (b *ℚ c)) (λ a b c. /-set _ _)
-    (λ x y z. eq/ (times (times x y) z) (times x (times y z)) (record { across = mul-associates Z (x .upper) (below x) (y .upper) (below y) (z .upper) (below z) }))
+    (λ x y z. eq/ (times (times x y) z) (times x (times y z))
+    (record { across = mul-associates Z (x .upper) (below x) (y .upper) (below y) (z .upper) (below z) }))
 
 mul-one : (a : ℚ) → a *ℚ class (whole (pos 1)) ≡ a
-unfolding ℚ _*ℚ_ class times whole
+unfolding ℚ lifted _*ℚ_ class times whole
 mul-one = /-elim-prop (λ a. a *ℚ class (whole (pos 1)) ≡ a) (λ a. /-set _ _)
     (λ x. eq/ (times x (whole (pos 1))) x (record { across = mul-unit Z (x .upper) (below x) }))
 
 mul-zero : (a : ℚ) → a *ℚ class (whole (pos 0)) ≡ class (whole (pos 0))
-unfolding ℚ _*ℚ_ class times whole
+unfolding ℚ lifted _*ℚ_ class times whole
 mul-zero = /-elim-prop (λ a. a *ℚ class (whole (pos 0)) ≡ class (whole (pos 0))) (λ a. /-set _ _)
     (λ x. eq/ (times x (whole (pos 0))) (whole (pos 0)) (record { across = mul-null Z (x .upper) (below x) }))
 
 mul-add : (a b c : ℚ) → a *ℚ (b +ℚ c) ≡ a *ℚ b +ℚ a *ℚ c
-unfolding ℚ _*ℚ_ _+ℚ_ plus times
+unfolding ℚ lifted _*ℚ_ _+ℚ_ plus times
 mul-add = /-elim-prop₃ (λ a b c. a *ℚ (b +ℚ c) ≡ a *ℚ b +ℚ a *ℚ c) (λ a b c. /-set _ _)
-    (λ x y z. eq/ (times x (plus y z)) (plus (times x y) (times x z)) (record { across = mul-distributes Z (x .upper) (below x) (y .upper) (below y) (z .upper) (below z) }))
+    (λ x y z. eq/ (times x (plus y z)) (plus (times x y) (times x z))
+    (record { across = mul-distributes Z (x .upper) (below x) (y .upper) (below y) (z .upper) (below z) }))
 
 ringℚ : Ring
 ringℚ = record {
@@ -299,7 +319,8 @@ le-antisymm = /-elim-prop₂ (λ a b. a ≤ℚ b → b ≤ℚ a → a ≡ b) (λ
 
 le-dec : (a b : ℚ) → Dec (a ≤ℚ b)
 unfolding ℚ leℚ orderly
-le-dec = /-elim-prop₂ (λ a b. Dec (a ≤ℚ b)) (λ a b. Dec-prop (leℚ a b .1)) (λ x y. by x y (≤ℤ-dec (x .upper *ℤ below y) (y .upper *ℤ below x)))
+le-dec = /-elim-prop₂ (λ a b. Dec (a ≤ℚ b)) (λ a b. Dec-prop (leℚ a b .1))
+    (λ x y. by x y (≤ℤ-dec (x .upper *ℤ below y) (y .upper *ℤ below x)))
   where
     by : (x y : Pair) → Dec ((x .upper *ℤ below y) ≤ℤ (y .upper *ℤ below x)) → Dec (x ≼ y)
     by x y (yes h) = yes (record { across = h })
@@ -311,7 +332,7 @@ le-total = /-elim-prop₂ (λ a b. ¬ (a ≤ℚ b) → b ≤ℚ a) (λ a b. Π-p
     (λ x y f. record { across = ≤ℤ-total (λ h. f (record { across = h })) })
 
 add-le : (a b c : ℚ) → a ≤ℚ b → a +ℚ c ≤ℚ b +ℚ c
-unfolding ℚ leℚ orderly _+ℚ_ plus
+unfolding ℚ lifted leℚ orderly _+ℚ_ plus
 add-le = /-elim-prop₃ (λ a b c. a ≤ℚ b → a +ℚ c ≤ℚ b +ℚ c) (λ a b c. Π-prop (λ _. leℚ (a +ℚ c) (b +ℚ c) .1))
     (λ x y z h. record {
       across = rewritten integerOrder
@@ -321,10 +342,12 @@ add-le = /-elim-prop₃ (λ a b c. a ≤ℚ b → a +ℚ c ≤ℚ b +ℚ c) (λ 
     })
 
 mul-nonneg : (a b : ℚ) → class (whole (pos 0)) ≤ℚ a → class (whole (pos 0)) ≤ℚ b → class (whole (pos 0)) ≤ℚ a *ℚ b
-unfolding ℚ leℚ orderly class _*ℚ_ times whole
+unfolding ℚ lifted leℚ orderly class _*ℚ_ times whole
 mul-nonneg = /-elim-prop₂ (λ a b. class (whole (pos 0)) ≤ℚ a → class (whole (pos 0)) ≤ℚ b → class (whole (pos 0)) ≤ℚ a *ℚ b)
     (λ a b. Π-prop (λ _. Π-prop (λ _. leℚ (class (whole (pos 0))) (a *ℚ b) .1)))
-    (λ x y h k. record { across = over-one (x .upper *ℤ y .upper) (x .lower * y .lower) (*ℤ-nonneg (x .upper) (y .upper) (upper x h) (upper y k)) })
+    (λ x y h k. record {
+      across = over-one (x .upper *ℤ y .upper) (x .lower * y .lower) (*ℤ-nonneg (x .upper) (y .upper) (upper x h) (upper y k));
+    })
   where
     upper : (x : Pair) → whole (pos 0) ≼ x → pos 0 ≤ℤ x .upper
     upper x h = omega (signed, split-mul (pos 0) (below x), split-mul (x .upper) (pos 1), h .across)
@@ -333,7 +356,7 @@ mul-nonneg = /-elim-prop₂ (λ a b. class (whole (pos 0)) ≤ℚ a → class (w
     over-one a p h = omega (signed, split-mul (pos 0) (pos p), split-mul a (pos 1))
 
 pub rationals : Rationals
-unfolding ℚ class ringℚ leℚ orderly pair whole plus times _+ℚ_ _*ℚ_
+unfolding ℚ lifted class ringℚ leℚ orderly pair whole plus times _+ℚ_ _*ℚ_
 rationals = record {
   order = record {
     ring = ringℚ;
@@ -352,6 +375,9 @@ rationals = record {
   ratio-one = λ h. class-eq (pair (pos 1) 1 h) (whole (pos 1)) (record { across = refl });
   ratio-add = λ a c p q h k. refl;
   ratio-mul = λ a c p q h k. refl;
-  ratio-eq = λ a c p q h k. ((λ e. effective ≈-prop ≈-equivalence (pair a p h) (pair c q k) e .across), (λ e. class-eq (pair a p h) (pair c q k) (record { across = e })));
+  ratio-eq = λ a c p q h k. (
+    (λ e. effective ≈-prop ≈-equivalence (pair a p h) (pair c q k) e .across),
+    (λ e. class-eq (pair a p h) (pair c q k) (record { across = e })),
+  );
   ratio-le = λ a c p q h k. ((λ l. l .across), (λ l. record { across = l }));
 }

@@ -69,7 +69,8 @@ module _ (R : Ring) where
 
   -- a difference is known by its sums
   same-difference : (a b c d : A) → a ⊹ d ≡ c ⊹ b → a ⊹ neg b ≡ c ⊹ neg d
-  same-difference a b c d e = add-cancel R (a ⊹ neg b) (c ⊹ neg d) (b ⊹ d) (back a b d ∙ e ∙ sym (ap (λ (v : A). c ⊹ neg d ⊹ v) (R .semiring .add-comm b d) ∙ back c d b))
+  same-difference a b c d e = add-cancel R (a ⊹ neg b) (c ⊹ neg d) (b ⊹ d)
+      (back a b d ∙ e ∙ sym (ap (λ (v : A). c ⊹ neg d ⊹ v) (R .semiring .add-comm b d) ∙ back c d b))
     where
       move : (u v w : A) → u ⊹ neg v ⊹ (v ⊹ w) ≡ u ⊹ w ⊹ (v ⊹ neg v)
       move u v w = simp (⊹-comm, ⊹-assoc, add-left-comm)

@@ -10,8 +10,10 @@ pub smallest-is : SmallestIs
 unfolding smallest
 smallest-is test zero i le below here = omega arith
 smallest-is test (suc n) zero le below here = rw (here (omega arith))
-smallest-is test (suc n) (suc i) le below here =
-    rw (below 0 (omega arith), smallest-is (λ k. test (suc k)) n i (omega arith) (λ k h. below (suc k) (omega arith)) (λ h. here (omega arith)))
+smallest-is test (suc n) (suc i) le below here = rw (
+  below 0 (omega arith),
+  smallest-is (λ k. test (suc k)) n i (omega arith) (λ k h. below (suc k) (omega arith)) (λ h. here (omega arith)),
+)
 
 pub smallest-finds : SmallestFinds
 unfolding smallest

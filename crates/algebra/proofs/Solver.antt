@@ -8,7 +8,8 @@ use lib.IntN.{ℤ, pos, negsuc, _+ℤ_, _*ℤ_}
 use lib.ListN.{getD}
 use Rattle.algebra.specs.Semiring.{Semiring}
 use Rattle.algebra.specs.Ring.{Ring, Number, int}
-use Rattle.algebra.specs.Solver.{Expr, var, null, unit, _:+_, _:*_, :-_, eval, Term, term, insert, merge, same, addTerm, addPoly, mulTerm, mulPoly, poly, isZero, vanishes, Solves}
+use Rattle.algebra.specs.Solver.{Expr, var, null, unit, _:+_, _:*_, :-_, eval, Solves}
+use Rattle.algebra.specs.Solver.{Term, term, insert, merge, same, addTerm, addPoly, mulTerm, mulPoly, poly, isZero, vanishes}
 use Rattle.algebra.proofs.Semiring.{ring, ring-units, zero-add, zero-mul, one-mul, mul-left-comm, add-mul, nat-zero, nat-one}
 use Rattle.algebra.proofs.Ring.{neg-unique, neg-neg, neg-mul, int-pos, int-neg, int-add, int-mul}
 

@@ -1,10 +1,11 @@
+-- Algebra: what the other crates cite. Definitions and statements are here, their proofs stand in proofs/.
 pub mod Semiring
 pub mod Ring
 pub mod Order
-pub mod Sum
-pub mod Solver
 pub mod Rational
+pub mod Sum
 pub mod Size
+pub mod Solver
 pub mod Smallest
-pub mod Table
 pub mod Row
+pub mod Table

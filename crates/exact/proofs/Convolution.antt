@@ -52,7 +52,8 @@ module _ (R : Semiring) where
 
   pub convolve-vanishes : (f g : ℕ → A) (x : ℕ) → ((z : ℕ) → z < x → g z ≡ 𝟘) → convolve f g x ≡ 𝟘
   unfolding convolve
-  convolve-vanishes f g x h = sum-vanishes R x _ (λ y l. ap (λ (v : A). f (suc y) · v) (h (x - suc y) (omega arith)) ∙ R .mul-zero (f (suc y)))
+  convolve-vanishes f g x h = sum-vanishes R x _
+      (λ y l. ap (λ (v : A). f (suc y) · v) (h (x - suc y) (omega arith)) ∙ R .mul-zero (f (suc y)))
 
   -- f with (g with h) is g with (f with h)
   pub convolve-swap : (f g h : ℕ → A) (x : ℕ) → convolve f (convolve g h) x ≡ convolve g (convolve f h) x
@@ -74,7 +75,8 @@ module _ (R : Semiring) where
       ∙ split (sum R u (λ y. f (suc y) · g (suc u - suc y))) (f (suc u)) (g (suc u - suc u)) (h (x - suc u))
       ∙ ap₂ _⊹_ (inner u l) (ap (λ (k : ℕ). g k · (f (suc u) · h (x - suc u))) (none u)))
       ∙ sum-add R x (λ u. sum R u (λ y. F y (u - suc y))) (λ u. g 0 · (f (suc u) · h (x - suc u)))
-      ∙ ap₂ _⊹_ (sym (sum-diagonals R x F) ∙ sum-cong R x (λ y l. sym (sum-scale R (x - suc y) (f (suc y)) (λ z. g (suc z) · h (x - suc y - suc z)))))
+      ∙ ap₂ _⊹_
+      (sym (sum-diagonals R x F) ∙ sum-cong R x (λ y l. sym (sum-scale R (x - suc y) (f (suc y)) (λ z. g (suc z) · h (x - suc y - suc z)))))
       (sym (sum-scale R x (g 0) (λ u. f (suc u) · h (x - suc u))))
     where
       F : ℕ → ℕ → A
@@ -111,6 +113,18 @@ module _ (R : Semiring) where
       split : (y : ℕ) → y < x → nat R x · (f (suc y) · g (x - suc y))
           ≡ nat R (suc y) · f (suc y) · g (x - suc y) ⊹ f (suc y) · (nat R (x - suc y) · g (x - suc y))
       split y l = ap (λ (v : A). v · (f (suc y) · g (x - suc y))) (ap (nat R) (parts y l) ∙ nat-add R (suc y) (x - suc y)) ∙ simp ring
+
+  -- two convolutions of one sequence as one sum
+  pub convolve-mixed : (g r : ℕ → A) (u v : A) (x : ℕ)
+      → u · convolve g r x ⊹ v · convolve (weighed g) r x ≡ sum R x (λ y. (u ⊹ nat R (suc y) · v) · g (suc y) · r (x - suc y))
+  unfolding convolve weighed
+  convolve-mixed g r u v x =
+      ap₂ _⊹_ (sum-scale R x u (λ y. g (suc y) · r (x - suc y))) (sum-scale R x v (λ y. nat R (suc y) · g (suc y) · r (x - suc y)))
+      ∙ sym (sum-add R x (λ y. u · (g (suc y) · r (x - suc y))) (λ y. v · (nat R (suc y) · g (suc y) · r (x - suc y))))
+      ∙ sum-cong R x (λ y l. joined u v (nat R (suc y)) (g (suc y)) (r (x - suc y)))
+    where
+      joined : (u v n g r : A) → u · (g · r) ⊹ v · (n · g · r) ≡ (u ⊹ n · v) · g · r
+      joined u v n g r = simp ring
 
   module _ (f : ℕ → A) where
     -- n severities of 1 or more come to n or more

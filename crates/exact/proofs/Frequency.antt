@@ -32,7 +32,8 @@ count-equations law = (refl, later)
   where
     later : (n : ℕ) → countCoefficient law (suc n)
         ≡ oneTo (min (law .order) (suc n)) (λ i. (a law i ⊕ overSuc (b law i) n) ⊗ countCoefficient law (suc n - i))
-    later n = oneTo-cong (min (law .order) (suc n)) (λ i l u. ap (λ (c : Fraction). (a law i ⊕ overSuc (b law i) n) ⊗ c) (place i l (omega arith)))
+    later n = oneTo-cong (min (law .order) (suc n))
+        (λ i l u. ap (λ (c : Fraction). (a law i ⊕ overSuc (b law i) n) ⊗ c) (place i l (omega arith)))
       where
         back : (i : ℕ) → 1 ≤ i → i ≤ suc n → n - (i - 1) ≡ suc n - i
         back i l u = omega arith
@@ -62,9 +63,12 @@ count-class law p n =
     spread : (p m u v c : A) → p · m · ((u ⊹ v) · c) ≡ (m · u ⊹ m · v) · (p · c)
     spread p m u v c = simp ring
 
+    earlier : ℕ → A
+    earlier i = value (countCoefficient law (suc n - suc i))
+
     each : (i : ℕ) → p · nat ℚ (suc n) · value (summand (suc i))
-        ≡ (nat ℚ (suc n) · value (a law (suc i)) ⊹ value (b law (suc i))) · (p · value (countCoefficient law (suc n - suc i)))
+        ≡ (nat ℚ (suc n) · value (a law (suc i)) ⊹ value (b law (suc i))) · (p · earlier i)
     each i =
         ap (λ (v : A). p · nat ℚ (suc n) · v) (rw (value-times, value-plus) refl)
-        ∙ spread p (nat ℚ (suc n)) (value (a law (suc i))) (value (overSuc (b law (suc i)) n)) (value (countCoefficient law (suc n - suc i)))
-        ∙ ap (λ (v : A). (nat ℚ (suc n) · value (a law (suc i)) ⊹ v) · (p · value (countCoefficient law (suc n - suc i)))) (value-overSuc (b law (suc i)) n)
+        ∙ spread p (nat ℚ (suc n)) (value (a law (suc i))) (value (overSuc (b law (suc i)) n)) (earlier i)
+        ∙ ap (λ (v : A). (nat ℚ (suc n) · value (a law (suc i)) ⊹ v) · (p · earlier i)) (value-overSuc (b law (suc i)) n)

@@ -1,3 +1,4 @@
+-- Bottom up: the recursion over any semiring, then fractions as rational numbers, then the statements.
 pub mod Convolution
 pub mod Sundt
 pub mod Value

@@ -16,7 +16,8 @@ use Rattle.exact.specs.Frequency.{Frequency, a, b, countCoefficient}
 use Rattle.exact.specs.Severity.{Severity, totalWeight, weight, density, convolution}
 use Rattle.exact.specs.Amount.{exactAmount}
 use Rattle.exact.specs.Recursion.{PublishedRecursion, RowRecursion, factor, WholeRecursion, WholeConvolution, FirstEntries}
-use Rattle.exact.proofs.Value.{order, ℚ, value, eq-of-value, value-plus, value-times, value-int, value-nat, value-zero, value-one, value-over, value-overSuc, value-oneTo}
+use Rattle.exact.proofs.Value.{order, ℚ, value, eq-of-value, value-plus, value-times, value-oneTo}
+use Rattle.exact.proofs.Value.{value-int, value-nat, value-zero, value-one, value-over, value-overSuc}
 use Rattle.exact.proofs.Convolution.{convolve}
 use Rattle.exact.proofs.Sundt.{row-next, sundt-rows, sundt-published}
 use Rattle.exact.proofs.Frequency.{count-equations, count-class}
@@ -25,34 +26,10 @@ open Semiring ℚ using (carrier as A, 𝟘, _⊹_, _·_)
 
 infixl 6 _⊹_
 infixl 7 _·_
-back : (i : ℕ) → suc i - 1 ≡ i
-back i = omega arith
+-- the integer z as a rational number
+abbrev integer : ℤ → A
+integer = int (order .ring)
 
-module _ (law : Frequency) (table : Severity) (p : Fraction) where
-  rows-value : (x : ℕ) → nat ℚ x · valueRow law table p 0 x
-      ≡ sum ℚ (law .order) (λ i. sum ℚ x (λ y.
-      (nat ℚ x · value (a law (suc i)) ⊹ nat ℚ (suc y) · value (b law (suc i))) · value (density table (suc y)) · valueRow law table p i (x - suc y)))
-  unfolding valueRow
-  rows-value x = sundt-rows ℚ (λ y. value (density table y)) (law .order) (λ i. value (a law i)) (λ i. value (b law i))
-      (λ n. value p · value (countCoefficient law n)) (count-class law (value p)) x
-
-  published-value : (x : ℕ) → nat ℚ x · valueRow law table p 0 x
-      ≡ sum ℚ x (λ y. valueRow law table p 0 (x - suc y) · sum ℚ (law .order) (λ i.
-      (nat ℚ x · value (a law (suc i)) ⊹ nat ℚ (suc y) · value (overSuc (b law (suc i)) i)) · value (convolution (density table) (suc i) (suc y))))
-  unfolding valueRow
-  published-value x =
-      sundt-published ℚ (λ y. value (density table y)) (law .order) (λ i. value (a law i)) (λ i. value (b law i))
-      (λ n. value p · value (countCoefficient law n)) (count-class law (value p))
-      (λ i. value (overSuc (b law (suc i)) i)) (λ i. value-overSuc (b law (suc i)) i) x
-      ∙ simp value-convolution
-
-pub row-recursion : RowRecursion
-row-recursion law table p x = eq-of-value (simp (value-oneTo, value-times, value-plus, value-amount, value-row, value-nat, back) (rows-value law table p x))
-
-pub published-recursion : PublishedRecursion
-published-recursion law table p x = eq-of-value (simp (value-oneTo, value-times, value-plus, value-amount, value-nat, back) (published-value law table p x))
-
--- ---- whole factors
 -- D W ((x a + y b) f e) is (A x + B y) w e, where D a = A, D b = B and W f = w
 cleared : (D W x y a b f e A′ B′ w : A) → D · a ≡ A′ → D · b ≡ B′ → W · f ≡ w
     → D · W · ((x · a ⊹ y · b) · f · e) ≡ (A′ · x ⊹ B′ · y) · w · e
@@ -65,8 +42,8 @@ cleared D W x y a b f e A′ B′ w p q r =
 turned : (D x W e : A) → D · x · W · e ≡ D · W · (x · e)
 turned D x W e = simp ring
 
-int-factor : (law : Frequency) (table : Severity) (x i y : ℕ) → int (order .ring) (factor law table x i y)
-    ≡ (int (order .ring) (law .termA i) · nat ℚ x ⊹ int (order .ring) (law .termB i) · nat ℚ y) · nat ℚ (weight table y)
+int-factor : (law : Frequency) (table : Severity) (x i y : ℕ) → integer (factor law table x i y)
+    ≡ (integer (law .termA i) · nat ℚ x ⊹ integer (law .termB i) · nat ℚ y) · nat ℚ (weight table y)
 unfolding factor
 int-factor law table x i y = simp (int-mul, int-add, int-pos)
 
@@ -75,75 +52,126 @@ weight-past : (table : Severity) (y : ℕ) → length (table .weights) ≤ y →
 weight-past table y l = List·getD-eq-default (table .weights) 0 l
 
 module _ (law : Frequency) (table : Severity) (p : Fraction) where
+  -- a_(i+1), b_(i+1), f(y+1), the multiples p P_n, and the entry of row j at x
+  abbrev α : ℕ → A
+  α i = value (a law (suc i))
+
+  abbrev β : ℕ → A
+  β i = value (b law (suc i))
+
+  abbrev f : ℕ → A
+  f y = value (density table (suc y))
+
+  abbrev P : ℕ → A
+  P n = value p · value (countCoefficient law n)
+
+  abbrev E : ℕ → ℕ → A
+  E = valueRow law table p
+
+  -- ---- fractions of the law and the table
+  rows-value : (x : ℕ) → nat ℚ x · E 0 x
+      ≡ sum ℚ (law .order) (λ i. sum ℚ x (λ y. (nat ℚ x · α i ⊹ nat ℚ (suc y) · β i) · f y · E i (x - suc y)))
+  unfolding valueRow
+  rows-value x = sundt-rows ℚ (λ y. value (density table y)) (law .order) (λ i. value (a law i)) (λ i. value (b law i)) P
+      (count-class law (value p)) x
+
+  published-value : (x : ℕ) → nat ℚ x · E 0 x
+      ≡ sum ℚ x (λ y. E 0 (x - suc y) · sum ℚ (law .order) (λ i.
+      (nat ℚ x · α i ⊹ nat ℚ (suc y) · value (overSuc (b law (suc i)) i)) · value (convolution (density table) (suc i) (suc y))))
+  unfolding valueRow
+  published-value x =
+      sundt-published ℚ (λ y. value (density table y)) (law .order) (λ i. value (a law i)) (λ i. value (b law i)) P
+      (count-class law (value p)) (λ i. value (overSuc (b law (suc i)) i)) (λ i. value-overSuc (b law (suc i)) i) x
+      ∙ simp value-convolution
+
+  -- ---- whole factors
   D : A
   D = nat ℚ (law .divisor)
 
   W : A
   W = nat ℚ (totalWeight (table .weights))
 
-  over-divisor : (z : ℤ) → D · value (over z (law .divisor) (law .divisor-pos)) ≡ int (order .ring) z
+  over-divisor : (z : ℤ) → D · value (over z (law .divisor) (law .divisor-pos)) ≡ integer z
   unfolding D
   over-divisor z = value-over z (law .divisor) (law .divisor-pos)
 
   over-total : (y : ℕ) → W · value (density table y) ≡ nat ℚ (weight table y)
   unfolding W density
-  over-total y = value-over (pos (weight table y)) (totalWeight (table .weights)) (table .total-pos) ∙ int-pos (order .ring) (weight table y)
+  over-total y = value-over (pos (weight table y)) (totalWeight (table .weights)) (table .total-pos)
+      ∙ int-pos (order .ring) (weight table y)
 
-  -- the recursion over the rational numbers, with whole factors
-  pub recursion-value : (x : ℕ) → nat ℚ (law .divisor * x * totalWeight (table .weights)) · valueRow law table p 0 x
-      ≡ sum ℚ (law .order) (λ i. sum ℚ (min x (length (table .weights))) (λ y. int (order .ring) (factor law table x (suc i) (suc y)) · valueRow law table p i (x - suc y)))
+  pub recursion-value : (x : ℕ) → nat ℚ (law .divisor * x * totalWeight (table .weights)) · E 0 x
+      ≡ sum ℚ (law .order) (λ i. sum ℚ (min x (length (table .weights))) (λ y.
+      integer (factor law table x (suc i) (suc y)) · E i (x - suc y)))
   unfolding D W a b
   recursion-value x =
-      ap (λ (v : A). v · valueRow law table p 0 x) (nat-mul ℚ (law .divisor * x) (totalWeight (table .weights)) ∙ ap (λ (v : A). v · W) (nat-mul ℚ (law .divisor) x))
-      ∙ turned D (nat ℚ x) W (valueRow law table p 0 x)
-      ∙ ap (λ (v : A). D · W · v) (rows-value law table p x)
-      ∙ sum-scale ℚ (law .order) (D · W) (λ i. sum ℚ x (entry i))
-      ∙ sum-cong ℚ (law .order) (λ i l. sum-scale ℚ x (D · W) (entry i) ∙ sum-cong ℚ x (λ y m. each i y)
-      ∙ sum-cut ℚ x (length (table .weights)) (wholeEntry i) (λ y m. none i y m))
+      ap (λ (v : A). v · E 0 x) (nat-mul ℚ (law .divisor * x) (totalWeight (table .weights))
+      ∙ ap (λ (v : A). v · W) (nat-mul ℚ (law .divisor) x))
+      ∙ turned D (nat ℚ x) W (E 0 x)
+      ∙ ap (λ (v : A). D · W · v) (rows-value x)
+      ∙ sum-scale ℚ (law .order) (D · W) (λ i. sum ℚ x (fractional i))
+      ∙ sum-cong ℚ (law .order) (λ i l. sum-scale ℚ x (D · W) (fractional i) ∙ sum-cong ℚ x (λ y m. each i y)
+      ∙ sum-cut ℚ x (length (table .weights)) (entire i) (λ y m. none i y m))
     where
-      entry : ℕ → ℕ → A
-      entry i y = (nat ℚ x · value (a law (suc i)) ⊹ nat ℚ (suc y) · value (b law (suc i))) · value (density table (suc y)) · valueRow law table p i (x - suc y)
+      fractional : ℕ → ℕ → A
+      fractional i y = (nat ℚ x · α i ⊹ nat ℚ (suc y) · β i) · f y · E i (x - suc y)
 
-      wholeEntry : ℕ → ℕ → A
-      wholeEntry i y = int (order .ring) (factor law table x (suc i) (suc y)) · valueRow law table p i (x - suc y)
+      entire : ℕ → ℕ → A
+      entire i y = integer (factor law table x (suc i) (suc y)) · E i (x - suc y)
 
-      each : (i y : ℕ) → D · W · entry i y ≡ wholeEntry i y
+      each : (i y : ℕ) → D · W · fractional i y ≡ entire i y
       each i y =
-          cleared D W (nat ℚ x) (nat ℚ (suc y)) (value (a law (suc i))) (value (b law (suc i))) (value (density table (suc y))) (valueRow law table p i (x - suc y))
-          (int (order .ring) (law .termA (suc i))) (int (order .ring) (law .termB (suc i))) (nat ℚ (weight table (suc y)))
+          cleared D W (nat ℚ x) (nat ℚ (suc y)) (α i) (β i) (f y) (E i (x - suc y))
+          (integer (law .termA (suc i))) (integer (law .termB (suc i))) (nat ℚ (weight table (suc y)))
           (over-divisor (law .termA (suc i))) (over-divisor (law .termB (suc i))) (over-total (suc y))
-          ∙ ap (λ (v : A). v · valueRow law table p i (x - suc y)) (sym (int-factor law table x (suc i) (suc y)))
+          ∙ ap (λ (v : A). v · E i (x - suc y)) (sym (int-factor law table x (suc i) (suc y)))
 
-      none : (i y : ℕ) → length (table .weights) ≤ y → wholeEntry i y ≡ 𝟘
+      mixed : ℕ → ℕ → A
+      mixed i y = integer (law .termA (suc i)) · nat ℚ x ⊹ integer (law .termB (suc i)) · nat ℚ (suc y)
+
+      none : (i y : ℕ) → length (table .weights) ≤ y → entire i y ≡ 𝟘
       none i y m =
-          ap (λ (v : A). v · valueRow law table p i (x - suc y)) (int-factor law table x (suc i) (suc y)
-          ∙ ap (λ (w : ℕ). (int (order .ring) (law .termA (suc i)) · nat ℚ x ⊹ int (order .ring) (law .termB (suc i)) · nat ℚ (suc y)) · nat ℚ w) (weight-past table y m))
+          ap (λ (v : A). v · E i (x - suc y)) (int-factor law table x (suc i) (suc y)
+          ∙ ap (λ (w : ℕ). mixed i y · nat ℚ w) (weight-past table y m))
           ∙ simp (nat-zero, ring-units)
 
-  pub convolution-value : (j x : ℕ) → nat ℚ (totalWeight (table .weights)) · valueRow law table p (suc j) x
-      ≡ sum ℚ (min x (length (table .weights))) (λ y. nat ℚ (weight table (suc y)) · valueRow law table p j (x - suc y))
+  pub convolution-value : (j x : ℕ) → nat ℚ (totalWeight (table .weights)) · E (suc j) x
+      ≡ sum ℚ (min x (length (table .weights))) (λ y. nat ℚ (weight table (suc y)) · E j (x - suc y))
   unfolding W valueRow convolve
   convolution-value j x =
-      ap (λ (v : A). W · v) (row-next ℚ (λ y. value (density table y)) (λ n. value p · value (countCoefficient law n)) j x)
-      ∙ sum-scale ℚ x W (λ y. value (density table (suc y)) · valueRow law table p j (x - suc y))
-      ∙ sum-cong ℚ x (λ y l. sym (ℚ .mul-assoc W (value (density table (suc y))) (valueRow law table p j (x - suc y)))
-      ∙ ap (λ (v : A). v · valueRow law table p j (x - suc y)) (over-total (suc y)))
-      ∙ sum-cut ℚ x (length (table .weights)) (λ y. nat ℚ (weight table (suc y)) · valueRow law table p j (x - suc y))
-      (λ y m. ap (λ (w : ℕ). nat ℚ w · valueRow law table p j (x - suc y)) (weight-past table y m) ∙ simp (nat-zero, ring-units))
+      ap (λ (v : A). W · v) (row-next ℚ (λ y. value (density table y)) P j x)
+      ∙ sum-scale ℚ x W (λ y. f y · E j (x - suc y))
+      ∙ sum-cong ℚ x (λ y l. sym (ℚ .mul-assoc W (f y) (E j (x - suc y))) ∙ ap (λ (v : A). v · E j (x - suc y)) (over-total (suc y)))
+      ∙ sum-cut ℚ x (length (table .weights)) (λ y. nat ℚ (weight table (suc y)) · E j (x - suc y))
+      (λ y m. ap (λ (w : ℕ). nat ℚ w · E j (x - suc y)) (weight-past table y m) ∙ simp (nat-zero, ring-units))
 
-  pub first-value : valueRow law table p 0 0 ≡ value p
+  -- ---- at total 0
+  pub first-value : E 0 0 ≡ value p
   unfolding exactAmount zeroTo accumulate convolution
-  first-value = sym (value-amount law table p 0) ∙ simp (value-times, value-plus, value-zero, value-one, count-equations law .0, ring-units)
+  first-value = sym (value-amount law table p 0)
+      ∙ simp (value-times, value-plus, value-zero, value-one, count-equations law .0, ring-units)
 
-  pub first-further : (j : ℕ) → valueRow law table p (suc j) 0 ≡ 𝟘
+  pub first-further : (j : ℕ) → E (suc j) 0 ≡ 𝟘
   unfolding valueRow convolve
-  first-further j = row-next ℚ (λ y. value (density table y)) (λ n. value p · value (countCoefficient law n)) j 0 ∙ sum-zero ℚ _
+  first-further j = row-next ℚ (λ y. value (density table y)) P j 0 ∙ sum-zero ℚ _
+
+-- ---- the statements
+back : (i : ℕ) → suc i - 1 ≡ i
+back i = omega arith
+
+ruleset values = (value-oneTo, value-times, value-plus, value-amount, value-row, value-nat, value-int, back)
+
+pub published-recursion : PublishedRecursion
+published-recursion law table p x = eq-of-value (simp values (published-value law table p x))
+
+pub row-recursion : RowRecursion
+row-recursion law table p x = eq-of-value (simp values (rows-value law table p x))
 
 pub whole-recursion : WholeRecursion
-whole-recursion law table p x = eq-of-value (simp (value-oneTo, value-times, value-amount, value-row, value-nat, value-int, back) (recursion-value law table p x))
+whole-recursion law table p x = eq-of-value (simp values (recursion-value law table p x))
 
 pub whole-convolution : WholeConvolution
-whole-convolution law table p j x = eq-of-value (simp (value-oneTo, value-times, value-row, value-nat) (convolution-value law table p j x))
+whole-convolution law table p j x = eq-of-value (simp values (convolution-value law table p j x))
 
 pub first-entries : FirstEntries
 first-entries law table p = (

@@ -8,7 +8,9 @@ use Rattle.algebra.specs.Semiring.{Semiring, nat}
 use Rattle.algebra.specs.Sum.{sum}
 use Rattle.algebra.proofs.Semiring.{ring, ring-units, mul-left-comm, zero-add, zero-mul, one-mul}
 use Rattle.algebra.proofs.Sum.{sum-cong, sum-add, sum-scale, sum-scale-right, sum-exchange, sum-shift, sum-extend, sum-cut}
-use Rattle.exact.proofs.Convolution.{convolve, power, power-suc, weighed, convolve-right, convolve-left, convolve-scale-left, convolve-vanishes, convolve-regroup, power-vanishes, convolve-unit, weighed-none, weighedFirst, weighedFirst-vanishes, weighed-power}
+use Rattle.exact.proofs.Convolution.{convolve, power, power-suc, power-vanishes, weighed, weighed-none, weighed-power}
+use Rattle.exact.proofs.Convolution.{weighedFirst, weighedFirst-vanishes, convolve-right, convolve-left, convolve-scale-left}
+use Rattle.exact.proofs.Convolution.{convolve-vanishes, convolve-unit, convolve-regroup, convolve-mixed}
 
 module _ (R : Semiring) where
   open Semiring R using (carrier as A, 𝟘, 𝟙, _⊹_, _·_)
@@ -55,7 +57,9 @@ module _ (R : Semiring) where
     unfolding power
     row-power g zero x =
         convolve-regroup R g (power R f 0) (row 0) x
-        ∙ ap₂ _⊹_ (convolve-vanishes R g (convolve R (power R f 0) (row 0)) x (λ z l. convolve-unit R f (row 0) z)) (one-mul R (convolve R g (row 0) x))
+        ∙ ap₂ _⊹_
+        (convolve-vanishes R g (convolve R (power R f 0) (row 0)) x (λ z l. convolve-unit R f (row 0) z))
+        (one-mul R (convolve R g (row 0) x))
         ∙ zero-add R (convolve R g (row 0) x)
     row-power g (suc j) x =
         convolve-regroup R g (power R f (suc j)) (row 0) x
@@ -105,6 +109,7 @@ module _ (R : Semiring) where
       ≡ sum R (min k (suc n)) (λ i. (nat R (suc n) · a (suc i) ⊹ b (suc i)) · P (suc n - suc i))
 
   module _ (f : ℕ → A) (k : ℕ) (a b P : ℕ → A) (law : SundtClass k a b P) where
+    -- both sides come to this
     middle : ℕ → A
     middle x = sum R (suc x) (λ m. P (suc m) · (nat R (suc m) · weighedFirst R f m x))
 
@@ -123,79 +128,78 @@ module _ (R : Semiring) where
         two : 1 + suc x ≡ suc (suc x)
         two = omega arith
 
-    term : ℕ → ℕ → ℕ → A
-    term x i m = (nat R (suc m) · a (suc i) ⊹ b (suc i)) · weighedFirst R f m x
+    -- the i-th factor of (1) times n, at n = m + 1, and what it brings with m further claims
+    factor : ℕ → ℕ → A
+    factor i m = nat R (suc m) · a (suc i) ⊹ b (suc i)
 
-    -- what term i of the law brings: x a_i (f with row i) and b_i (weighed f with row i), rows counted from 0
-    unfoldable pub share : ℕ → ℕ → A
+    term : ℕ → ℕ → ℕ → A
+    term x i m = factor i m · weighedFirst R f m x
+
+    -- what term i of the law brings: x a_i (f with row i) and b_i (weighed f with row i), rows and terms counted from 0
+    share : ℕ → ℕ → A
     share x i = nat R x · a (suc i) · convolve R f (row f P i) x ⊹ b (suc i) · convolve R (weighed R f) (row f P i) x
 
     share-delayed : (x i : ℕ) → share x i ≡ sum R (suc x) (λ m. delay i P m · term x i m)
-    unfolding share term weighedFirst
+    unfolding share term factor weighedFirst
     share-delayed x i =
         ap₂ _⊹_
-        (ap (λ (v : A). nat R x · a (suc i) · v) (row-convolve f P f i x)
-        ∙ sum-scale R (suc x) (nat R x · a (suc i)) (λ n. P n · convolve R f (power R f (n + i)) x))
-        (ap (λ (v : A). b (suc i) · v) (row-convolve f P (weighed R f) i x)
-        ∙ sum-scale R (suc x) (b (suc i)) (λ n. P n · weighedFirst R f (n + i) x))
-        ∙ sym (sum-add R (suc x) (λ n. nat R x · a (suc i) · (P n · convolve R f (power R f (n + i)) x)) (λ n. b (suc i) · (P n · weighedFirst R f (n + i) x)))
+        (ap (λ (v : A). nat R x · a (suc i) · v) (row-convolve f P f i x) ∙ sum-scale R (suc x) (nat R x · a (suc i)) plain)
+        (ap (λ (v : A). b (suc i) · v) (row-convolve f P (weighed R f) i x) ∙ sum-scale R (suc x) (b (suc i)) heavy)
+        ∙ sym (sum-add R (suc x) (λ n. nat R x · a (suc i) · plain n) (λ n. b (suc i) · heavy n))
         ∙ sum-cong R (suc x) (λ n l. join n)
         ∙ sym (delay-sum i (suc x) P (term x i))
         ∙ sum-extend R (suc x) i (λ m. delay i P m · term x i m) none
       where
+        plain : ℕ → A
+        plain n = P n · convolve R f (power R f (n + i)) x
+
+        heavy : ℕ → A
+        heavy n = P n · weighedFirst R f (n + i) x
+
         flat : (n a p w : A) → n · a · (p · w) ≡ a · (p · (n · w))
         flat n a p w = simp ring
 
         close : (a b p n s : A) → a · (p · (n · s)) ⊹ b · (p · s) ≡ p · ((n · a ⊹ b) · s)
         close a b p n s = simp ring
 
-        join : (n : ℕ) → nat R x · a (suc i) · (P n · convolve R f (power R f (n + i)) x) ⊹ b (suc i) · (P n · weighedFirst R f (n + i) x) ≡ P n · term x i (n + i)
+        shared : (n : ℕ) → nat R x · convolve R f (power R f (n + i)) x ≡ nat R (suc (n + i)) · weighedFirst R f (n + i) x
+        shared n = ap (λ (v : A). nat R x · v) (sym (power-suc R f (n + i) x)) ∙ weighed-power R f (n + i) x
+
+        join : (n : ℕ) → nat R x · a (suc i) · plain n ⊹ b (suc i) · heavy n ≡ P n · term x i (n + i)
         join n =
-            ap (λ (v : A). v ⊹ b (suc i) · (P n · weighedFirst R f (n + i) x))
-            (flat (nat R x) (a (suc i)) (P n) (convolve R f (power R f (n + i)) x)
-            ∙ ap (λ (t : A). a (suc i) · (P n · t)) (ap (λ (v : A). nat R x · v) (sym (power-suc R f (n + i) x)) ∙ weighed-power R f (n + i) x))
+            ap (λ (v : A). v ⊹ b (suc i) · heavy n)
+            (flat (nat R x) (a (suc i)) (P n) (convolve R f (power R f (n + i)) x) ∙ ap (λ (v : A). a (suc i) · (P n · v)) (shared n))
             ∙ close (a (suc i)) (b (suc i)) (P n) (nat R (suc (n + i))) (weighedFirst R f (n + i) x)
 
         none : (m : ℕ) → suc x ≤ m → delay i P m · term x i m ≡ 𝟘
-        none m l = ap (λ (v : A). delay i P m · ((nat R (suc m) · a (suc i) ⊹ b (suc i)) · v)) (weighedFirst-vanishes R f m x (omega arith)) ∙ simp ring-units
+        none m l = ap (λ (v : A). delay i P m · (factor i m · v)) (weighedFirst-vanishes R f m x (omega arith)) ∙ simp ring-units
 
     right : (x : ℕ) → sum R k (λ i. share x i) ≡ middle x
-    unfolding middle term
+    unfolding middle term factor
     right x =
         sum-cong R k (λ i l. share-delayed x i)
         ∙ sum-exchange R k (suc x) (λ i m. delay i P m · term x i m)
         ∙ sum-cong R (suc x) (λ m l. delay-min k m P (λ i. term x i m) ∙ sum-cong R (min k (suc m)) (λ i b. inner i m)
-        ∙ sym (sum-scale-right R (min k (suc m)) (weighedFirst R f m x) (λ i. (nat R (suc m) · a (suc i) ⊹ b (suc i)) · P (suc m - suc i)))
+        ∙ sym (sum-scale-right R (min k (suc m)) (weighedFirst R f m x) (λ i. factor i m · P (suc m - suc i)))
         ∙ ap (λ (v : A). v · weighedFirst R f m x) (sym (law m)) ∙ simp ring)
       where
-        inner : (i m : ℕ) → P (m - i) · ((nat R (suc m) · a (suc i) ⊹ b (suc i)) · weighedFirst R f m x) ≡ (nat R (suc m) · a (suc i) ⊹ b (suc i)) · P (suc m - suc i) · weighedFirst R f m x
+        inner : (i m : ℕ) → P (m - i) · (factor i m · weighedFirst R f m x) ≡ factor i m · P (suc m - suc i) · weighedFirst R f m x
         inner i m = rw (NL.suc-sub-suc m i) (simp ring)
 
     sundt : (x : ℕ) → nat R x · row f P 0 x ≡ sum R k (λ i. share x i)
     sundt x = left x ∙ sym (right x)
 
-    -- two convolutions of one sequence as one sum
-    mixed : (g r : ℕ → A) (u v : A) (x : ℕ)
-        → u · convolve R g r x ⊹ v · convolve R (weighed R g) r x ≡ sum R x (λ y. (u ⊹ nat R (suc y) · v) · g (suc y) · r (x - suc y))
-    unfolding convolve weighed
-    mixed g r u v x =
-        ap₂ _⊹_ (sum-scale R x u (λ y. g (suc y) · r (x - suc y))) (sum-scale R x v (λ y. nat R (suc y) · g (suc y) · r (x - suc y)))
-        ∙ sym (sum-add R x (λ y. u · (g (suc y) · r (x - suc y))) (λ y. v · (nat R (suc y) · g (suc y) · r (x - suc y))))
-        ∙ sum-cong R x (λ y l. joined u v (nat R (suc y)) (g (suc y)) (r (x - suc y)))
-      where
-        joined : (u v n g r : A) → u · (g · r) ⊹ v · (n · g · r) ≡ (u ⊹ n · v) · g · r
-        joined u v n g r = simp ring
-
     -- with the convolutions carried in rows
     pub sundt-rows : (x : ℕ) → nat R x · row f P 0 x
         ≡ sum R k (λ i. sum R x (λ y. (nat R x · a (suc i) ⊹ nat R (suc y) · b (suc i)) · f (suc y) · row f P i (x - suc y)))
     unfolding share
-    sundt-rows x = sundt x ∙ sum-cong R k (λ i l. mixed f (row f P i) (nat R x · a (suc i)) (b (suc i)) x)
+    sundt-rows x = sundt x ∙ sum-cong R k (λ i l. convolve-mixed R f (row f P i) (nat R x · a (suc i)) (b (suc i)) x)
 
     -- as published, with b_i = i c_i
     module _ (c : ℕ → A) (divided : (i : ℕ) → nat R (suc i) · c i ≡ b (suc i)) where
       share-published : (x i : ℕ) → share x i
-          ≡ nat R x · a (suc i) · convolve R (power R f (suc i)) (row f P 0) x ⊹ c i · convolve R (weighed R (power R f (suc i))) (row f P 0) x
+          ≡ nat R x · a (suc i) · convolve R (power R f (suc i)) (row f P 0) x
+          ⊹ c i · convolve R (weighed R (power R f (suc i))) (row f P 0) x
       unfolding share weighedFirst weighed
       share-published x i =
           ap₂ _⊹_
@@ -212,7 +216,7 @@ module _ (R : Semiring) where
           ≡ sum R x (λ y. row f P 0 (x - suc y) · sum R k (λ i. (nat R x · a (suc i) ⊹ nat R (suc y) · c i) · power R f (suc i) (suc y)))
       sundt-published x =
           sundt x
-          ∙ sum-cong R k (λ i l. share-published x i ∙ mixed (power R f (suc i)) (row f P 0) (nat R x · a (suc i)) (c i) x)
+          ∙ sum-cong R k (λ i l. share-published x i ∙ convolve-mixed R (power R f (suc i)) (row f P 0) (nat R x · a (suc i)) (c i) x)
           ∙ sum-exchange R k x (λ i y. coefficient i y · row f P 0 (x - suc y))
           ∙ sum-cong R x (λ y l. sym (sum-scale-right R k (row f P 0 (x - suc y)) (λ i. coefficient i y))
           ∙ R .mul-comm (sum R k (λ i. coefficient i y)) (row f P 0 (x - suc y)))

@@ -35,7 +35,9 @@ value-eq {x} {y} e = rationals .ratio-eq (x .upper) (y .upper) (x .lower) (y .lo
 
 pub eq-of-value : {x y : Fraction} → value x ≡ value y → x ≈ y
 unfolding value
-eq-of-value {x} {y} e = record { across = rationals .ratio-eq (x .upper) (y .upper) (x .lower) (y .lower) (x .lower-pos) (y .lower-pos) .0 e }
+eq-of-value {x} {y} e = record {
+  across = rationals .ratio-eq (x .upper) (y .upper) (x .lower) (y .lower) (x .lower-pos) (y .lower-pos) .0 e;
+}
 
 pub value-le : {x y : Fraction} → x ≼ y → order ._⊑_ (value x) (value y)
 unfolding value
@@ -43,7 +45,9 @@ value-le {x} {y} h = rationals .ratio-le (x .upper) (y .upper) (x .lower) (y .lo
 
 pub le-of-value : {x y : Fraction} → order ._⊑_ (value x) (value y) → x ≼ y
 unfolding value
-le-of-value {x} {y} h = record { across = rationals .ratio-le (x .upper) (y .upper) (x .lower) (y .lower) (x .lower-pos) (y .lower-pos) .0 h }
+le-of-value {x} {y} h = record {
+  across = rationals .ratio-le (x .upper) (y .upper) (x .lower) (y .lower) (x .lower-pos) (y .lower-pos) .0 h;
+}
 
 -- ---- operations
 pub value-plus : (x y : Fraction) → value (x ⊕ y) ≡ value x ⊹ value y
@@ -81,7 +85,8 @@ value-overSuc x n =
     ap (λ (v : A). v · value (overSuc x n)) (sym (ratio-nat rationals (suc n) (NL.le-refl 1)))
     ∙ sym (rationals .ratio-mul (pos (suc n)) (x .upper) 1 (x .lower * suc n) (NL.le-refl 1) (overSuc x n .lower-pos))
     ∙ ratio-same rationals (pos (suc n) *ℤ x .upper) (x .upper) (1 * (x .lower * suc n)) (x .lower)
-    (NL.mul-pos (NL.le-refl 1) (overSuc x n .lower-pos)) (x .lower-pos) (across (integers .semiring) (pos (suc n)) (x .upper) (pos (x .lower)))
+    (NL.mul-pos (NL.le-refl 1) (overSuc x n .lower-pos)) (x .lower-pos)
+    (across (integers .semiring) (pos (suc n)) (x .upper) (pos (x .lower)))
   where
     across : (S : Semiring) (n u l : S .carrier) → S ._·_ (S ._·_ n u) l ≡ S ._·_ u (S ._·_ (S .𝟙) (S ._·_ l n))
     across S n u l = simp (ring, ring-units)

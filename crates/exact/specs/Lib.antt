@@ -1,3 +1,4 @@
+-- The exact amounts of the paper, and what is claimed of them. To be read in this order.
 pub mod Fraction
 pub mod Frequency
 pub mod Severity
