@@ -7,8 +7,8 @@ use Rattle.exact.specs.Frequency.{Frequency, a, b}
 use Rattle.exact.specs.Severity.{Severity, totalWeight, weight, density, convolution}
 use Rattle.exact.specs.Amount.{exactAmount, exactRow}
 
--- Corollary 5 of document 002, times x: the amount at x is the sum over y from 1 to x of the amount at x - y times the sum over i
--- from 1 to k of (a_i + b_i y / (i x)) times the i-fold convolution of f at y
+-- Corollary 5 of Sundt (1992), document 002, times x: the amount at x is the sum over y from 1 to x of the amount at x - y times the
+-- sum over i from 1 to k of (a_i + b_i y / (i x)) times the i-fold convolution of f at y
 abbrev pub PublishedRecursion : Type 0
 PublishedRecursion = (law : Frequency) (table : Severity) (p : Fraction) (x : ℕ)
     → whole (pos x) ⊗ exactAmount law table p x
