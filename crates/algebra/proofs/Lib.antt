@@ -10,5 +10,5 @@ pub mod Order
 pub mod Rational
 pub mod Ratio
 pub mod Smallest
-pub mod Row
+pub mod Slice
 pub mod Table

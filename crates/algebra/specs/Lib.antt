@@ -7,5 +7,5 @@ pub mod Sum
 pub mod Size
 pub mod Solver
 pub mod Smallest
-pub mod Row
+pub mod Slice
 pub mod Table

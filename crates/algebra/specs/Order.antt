@@ -1,4 +1,5 @@
--- Ordered rings: a total order that a common summand keeps, and in which products of what is zero or more are so too.
+-- Ordered rings: commutative rings with a total order that adding a number keeps, and in which a product of two numbers that are zero or
+-- more is zero or more.
 use mathlib.Core.Path.{_≡_}
 use Rattle.algebra.specs.Ring.{Ring, Number}
 

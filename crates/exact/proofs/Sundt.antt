@@ -129,18 +129,18 @@ module _ (R : Semiring) where
         two = omega arith
 
     -- the i-th factor of (1) times n, at n = m + 1, and what it brings with m further claims
-    factor : ℕ → ℕ → A
-    factor i m = nat R (suc m) · a (suc i) ⊹ b (suc i)
+    countFactor : ℕ → ℕ → A
+    countFactor i m = nat R (suc m) · a (suc i) ⊹ b (suc i)
 
     term : ℕ → ℕ → ℕ → A
-    term x i m = factor i m · weighedFirst R f m x
+    term x i m = countFactor i m · weighedFirst R f m x
 
     -- what term i of the law brings: x a_i (f with row i) and b_i (weighed f with row i), rows and terms counted from 0
     share : ℕ → ℕ → A
     share x i = nat R x · a (suc i) · convolve R f (row f P i) x ⊹ b (suc i) · convolve R (weighed R f) (row f P i) x
 
     share-delayed : (x i : ℕ) → share x i ≡ sum R (suc x) (λ m. delay i P m · term x i m)
-    unfolding share term factor weighedFirst
+    unfolding share term countFactor weighedFirst
     share-delayed x i =
         ap₂ _⊹_
         (ap (λ (v : A). nat R x · a (suc i) · v) (row-convolve f P f i x) ∙ sum-scale R (suc x) (nat R x · a (suc i)) plain)
@@ -172,18 +172,18 @@ module _ (R : Semiring) where
             ∙ close (a (suc i)) (b (suc i)) (P n) (nat R (suc (n + i))) (weighedFirst R f (n + i) x)
 
         none : (m : ℕ) → suc x ≤ m → delay i P m · term x i m ≡ 𝟘
-        none m l = ap (λ (v : A). delay i P m · (factor i m · v)) (weighedFirst-vanishes R f m x (omega arith)) ∙ simp ring-units
+        none m l = ap (λ (v : A). delay i P m · (countFactor i m · v)) (weighedFirst-vanishes R f m x (omega arith)) ∙ simp ring-units
 
     right : (x : ℕ) → sum R k (λ i. share x i) ≡ middle x
-    unfolding middle term factor
+    unfolding middle term countFactor
     right x =
         sum-cong R k (λ i l. share-delayed x i)
         ∙ sum-exchange R k (suc x) (λ i m. delay i P m · term x i m)
         ∙ sum-cong R (suc x) (λ m l. delay-min k m P (λ i. term x i m) ∙ sum-cong R (min k (suc m)) (λ i b. inner i m)
-        ∙ sym (sum-scale-right R (min k (suc m)) (weighedFirst R f m x) (λ i. factor i m · P (suc m - suc i)))
+        ∙ sym (sum-scale-right R (min k (suc m)) (weighedFirst R f m x) (λ i. countFactor i m · P (suc m - suc i)))
         ∙ ap (λ (v : A). v · weighedFirst R f m x) (sym (law m)) ∙ simp ring)
       where
-        inner : (i m : ℕ) → P (m - i) · (factor i m · weighedFirst R f m x) ≡ factor i m · P (suc m - suc i) · weighedFirst R f m x
+        inner : (i m : ℕ) → P (m - i) · (countFactor i m · weighedFirst R f m x) ≡ countFactor i m · P (suc m - suc i) · weighedFirst R f m x
         inner i m = rw (NL.suc-sub-suc m i) (simp ring)
 
     sundt : (x : ℕ) → nat R x · row f P 0 x ≡ sum R k (λ i. share x i)

@@ -1,13 +1,20 @@
--- Rows written from the front: the seam between what was written and what stood there is moved by the kit's laws of `++` and `drop`.
+-- Laws of lent slices, from the kit's laws of `++`, `take` and `drop`, which move the seam between two parts of a list.
 use mathlib.Core.Path.{_≡_, sym, _∙_, ap}
 use mathlib.Core.List.{List, [], _∷_, _++_, append-assoc}
 use Prim.Native.Nat.{ℕ, suc, _+_, _-_}
+use native.Mathlib.Numerals.{add-one}
 use native.Mathlib.Omega.{arith}
 use lib.ListN.{length, set, getD, drop, length-append, length-drop}
-use lib.Seq.{drop-cons, set-append-seam, drop-append-add, drop-drop}
-use Rattle.algebra.specs.Row.{written, WrittenLength, WrittenNext, WrittenAgain}
+use lib.Seq.{take-all, drop-cons, set-append-seam, drop-append-add, drop-drop}
+use Rattle.algebra.specs.Slice.{written, DropNext, PartToEnd, WrittenLength, WrittenNext, WrittenAgain}
 
 module _ {A : Type 0} where
+  pub drop-next : DropNext A
+  drop-next l i d h = drop-cons l i d h ∙ ap (λ (k : ℕ). getD l i d ∷ drop k l) (sym (add-one i))
+
+  pub part-to-end : PartToEnd A
+  part-to-end l a = take-all (length l - a) (drop a l) (simp length-drop (omega arith))
+
   pub written-length : WrittenLength A
   written-length front row h = simp (length-append, length-drop) (omega arith)
 

@@ -1,14 +1,22 @@
--- A lent row that is written from its front.
+-- Lent slices as lists: what a loop still has to read, and rows that are written from the front.
 use mathlib.Core.Path.{_≡_}
 use mathlib.Core.List.{List, [], _∷_, _++_}
-use Prim.Native.Nat.{_≤_, _<_}
-use lib.ListN.{length, set, drop}
+use Prim.Native.Nat.{ℕ, _+_, _-_, _≤_, _<_}
+use lib.ListN.{length, getD, set, take, drop}
 
 -- the row after `front` was written over its first places; the later places keep what they held
 abbrev pub written : {A : Type 0} → List A → List A → List A
 written front row = front ++ drop (length front) row
 
 module _ (A : Type 0) where
+  -- what a loop has before it at i: the element there, and what it has before it at i + 1
+  abbrev pub DropNext : Type 0
+  DropNext = (l : List A) (i : ℕ) (d : A) → i < length l → drop i l ≡ getD l i d ∷ drop (i + 1) l
+
+  -- the part from a to the end is the list from a on
+  abbrev pub PartToEnd : Type 0
+  PartToEnd = (l : List A) (a : ℕ) → take (length l - a) (drop a l) ≡ drop a l
+
   abbrev pub WrittenLength : Type 0
   WrittenLength = (front row : List A) → length front ≤ length row → length (written front row) ≡ length row
 
