@@ -22,6 +22,9 @@ down (pos n) = 0
 down (negsuc n) = suc n
 
 -- ---- order and equality, by the parts
+not-below : (a b : ℕ) → a + suc b ≤ 0 → ⊥
+not-below a b h = omega arith
+
 le-split : (a b : ℤ) → T (leZ a b) → up a + down b ≤ up b + down a
 le-split (pos a) (pos b) t = let h = leb→le a b t in omega arith
 le-split (pos a) (negsuc b) t = absurd t
@@ -30,10 +33,7 @@ le-split (negsuc a) (negsuc b) t = let h = leb→le b a t in omega arith
 
 split-leZ : (a b : ℤ) → up a + down b ≤ up b + down a → T (leZ a b)
 split-leZ (pos a) (pos b) h = le→leb a b (omega arith)
-split-leZ (pos a) (negsuc b) h = absurd (clash a b h)
-  where
-    clash : (a b : ℕ) → a + suc b ≤ 0 + 0 → ⊥
-    clash a b h = omega arith
+split-leZ (pos a) (negsuc b) h = absurd (not-below a b (omega arith))
 split-leZ (negsuc a) (pos b) h = tt
 split-leZ (negsuc a) (negsuc b) h = le→leb b a (omega arith)
 
@@ -45,23 +45,14 @@ lt-split (negsuc a) (negsuc b) t = let h = ltb→lt b a t in omega arith
 
 split-ltZ : (a b : ℤ) → up a + down b < up b + down a → T (ltZ a b)
 split-ltZ (pos a) (pos b) h = lt→ltb a b (omega arith)
-split-ltZ (pos a) (negsuc b) h = absurd (clash a b h)
-  where
-    clash : (a b : ℕ) → a + suc b < 0 + 0 → ⊥
-    clash a b h = omega arith
+split-ltZ (pos a) (negsuc b) h = absurd (not-below a b (omega arith))
 split-ltZ (negsuc a) (pos b) h = tt
 split-ltZ (negsuc a) (negsuc b) h = lt→ltb b a (omega arith)
 
 split-≡ : (a b : ℤ) → up a + down b ≡ up b + down a → a ≡ b
 split-≡ (pos a) (pos b) h = ap pos (omega arith)
-split-≡ (pos a) (negsuc b) h = absurd (clash a b h)
-  where
-    clash : (a b : ℕ) → a + suc b ≡ 0 + 0 → ⊥
-    clash a b h = omega arith
-split-≡ (negsuc a) (pos b) h = absurd (clash a b h)
-  where
-    clash : (a b : ℕ) → 0 + 0 ≡ b + suc a → ⊥
-    clash a b h = omega arith
+split-≡ (pos a) (negsuc b) h = absurd (not-below a b (omega arith))
+split-≡ (negsuc a) (pos b) h = absurd (not-below b a (omega arith))
 split-≡ (negsuc a) (negsuc b) h = ap negsuc (omega arith)
 
 pub split-le : {a b : ℤ} → a ≤ℤ b → up a + down b ≤ up b + down a

@@ -5,8 +5,8 @@ use native.Mathlib.Nat as NL
 use native.Mathlib.Omega.{arith}
 use lib.IntN.{ℤ, pos, negsuc, negℤ, natAbs, subℕ, _+ℤ_, _*ℤ_}
 use lib.Signed.{mag}
-use mir.Syntax.{w64}
-use mir.Val.{toZ, ofZ}
+use mir.Syntax.{Width}
+use mir.Val.{toZ, ofZ, hbits}
 use mir.Facts.{toZ-ofZ}
 use Rattle.algebra.specs.Size.{SizeAdd, SizeSub, SizeMul, SizeSum, SizeFits}
 use Rattle.algebra.proofs.Sum.{sum-related}
@@ -48,8 +48,8 @@ mag-size (pos n) = NL.le-refl n
 mag-size (negsuc n) = omega arith
 
 pub size-fits : SizeFits
-size-fits z h = record { sfits = NL.lt-of-le-of-lt (mag-size z) h }
+size-fits w z h = record { sfits = NL.lt-of-le-of-lt (mag-size z) h }
 
 -- what a signed local holds, where the number that was put there fits and is v
-pub held : {z v : ℤ} → mag z < 2 ^ 63 → z ≡ v → toZ w64 (ofZ w64 z) ≡ v
-held h e = toZ-ofZ (record { sfits = h }) ∙ e
+pub held : (w : Width) {z v : ℤ} → mag z < 2 ^ hbits w → z ≡ v → toZ w (ofZ w z) ≡ v
+held w h e = toZ-ofZ (record { sfits = h }) ∙ e

@@ -1,9 +1,9 @@
--- The size of an integer as a natural number, by which code shows that its numbers fit 64 signed bits.
+-- The size of an integer as a natural number, by which code shows that its signed numbers fit.
 use mathlib.Core.Path.{_≡_}
 use Prim.Native.Nat.{ℕ, _+_, _*_, _≤_, _<_, _^_}
 use lib.IntN.{ℤ, natAbs, _+ℤ_, _-ℤ_, _*ℤ_}
-use mir.Syntax.{w64}
-use mir.Val.{SFits}
+use mir.Syntax.{Width}
+use mir.Val.{SFits, hbits}
 use Rattle.algebra.specs.Sum.{sumℕ, sumℤ}
 
 abbrev pub SizeAdd : Type 0
@@ -19,6 +19,6 @@ SizeMul = (a b : ℤ) → natAbs (a *ℤ b) ≡ natAbs a * natAbs b
 abbrev pub SizeSum : Type 0
 SizeSum = (n : ℕ) (f : ℕ → ℤ) (g : ℕ → ℕ) → ((i : ℕ) → i < n → natAbs (f i) ≤ g i) → natAbs (sumℤ n f) ≤ sumℕ n g
 
--- a number of a size below 2 to the 63 fits
+-- a number fits w bits with a sign where its size is below 2 to the w - 1
 abbrev pub SizeFits : Type 0
-SizeFits = (z : ℤ) → natAbs z < 2 ^ 63 → SFits w64 z
+SizeFits = (w : Width) (z : ℤ) → natAbs z < 2 ^ hbits w → SFits w z

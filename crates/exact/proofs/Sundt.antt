@@ -183,7 +183,8 @@ module _ (R : Semiring) where
         ∙ sym (sum-scale-right R (min k (suc m)) (weighedFirst R f m x) (λ i. countFactor i m · P (suc m - suc i)))
         ∙ ap (λ (v : A). v · weighedFirst R f m x) (sym (law m)) ∙ simp ring)
       where
-        inner : (i m : ℕ) → P (m - i) · (countFactor i m · weighedFirst R f m x) ≡ countFactor i m · P (suc m - suc i) · weighedFirst R f m x
+        inner : (i m : ℕ) → P (m - i) · (countFactor i m · weighedFirst R f m x)
+            ≡ countFactor i m · P (suc m - suc i) · weighedFirst R f m x
         inner i m = rw (NL.suc-sub-suc m i) (simp ring)
 
     sundt : (x : ℕ) → nat R x · row f P 0 x ≡ sum R k (λ i. share x i)
