@@ -8,7 +8,7 @@ pub mod Ring
 pub mod Solver
 pub mod Order
 pub mod Rational
-pub mod Ratio
+pub mod Value
 pub mod Smallest
 pub mod Slice
 pub mod Table

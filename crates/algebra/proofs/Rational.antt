@@ -1,8 +1,7 @@
--- The rational numbers as classes of pairs (a, p), a over p. The order on pairs is by multiplying across; pairs each of which is at
--- most the other are one class. Every law is an identity of integers, proved over any semiring and used at ℤ.
+-- The rational numbers as classes of fractions: fractions each of which is at most the other are one class. Every law is an identity of
+-- integers, proved over any semiring and used at ℤ.
 use mathlib.Core.Path.{_≡_, refl, sym, _∙_, ap}
 use Prim.Native.Nat.{ℕ, _≤_, _*_}
-use native.Mathlib.Nat as NL
 use std.Quotient.{_/_, cls, eq/, /-set, /-rec, /-rec₂, /-elim-prop, /-elim-prop₂, /-elim-prop₃, IsEquivRel, effective}
 use std.HProp.{HProp, HProp-set, HProp-ext}
 use std.HLevel.{Π-prop, Dec-prop}
@@ -10,6 +9,7 @@ use lib.IntN.{ℤ, pos, negℤ, _+ℤ_, _*ℤ_, ℤ-set}
 use lib.Signed.{_≤ℤ_, ≤ℤ-refl}
 use Rattle.algebra.specs.Semiring.{Semiring}
 use Rattle.algebra.specs.Ring.{Ring}
+use Rattle.algebra.specs.Fraction.{Fraction, over, whole, _⊕_, _⊗_, _≈_, _≼_}
 use Rattle.algebra.specs.Rational.{Rationals}
 use Rattle.algebra.proofs.Semiring.{ring, ring-units, zero-mul}
 use Rattle.algebra.proofs.Ring.{neg-mul}
@@ -73,46 +73,33 @@ module _ (R : Ring) where
 abbrev Z : Semiring
 Z = integers .semiring
 
--- ---- pairs
-record Pair : Type 0 where
-  upper : ℤ
-  lower : ℕ
-  positive : 1 ≤ lower
-
+-- ---- equality and order of fractions
 -- the lower number as an integer
-abbrev below : Pair → ℤ
+abbrev below : Fraction → ℤ
 below x = pos (x .lower)
 
-infix 4 _≈_
-record _≈_ (x y : Pair) : Type 0 where
-  across : x .upper *ℤ below y ≡ y .upper *ℤ below x
-
-infix 4 _≼_
-record _≼_ (x y : Pair) : Type 0 where
-  across : (x .upper *ℤ below y) ≤ℤ (y .upper *ℤ below x)
-
-≈-prop : (x y : Pair) → IsProp (x ≈ y)
+≈-prop : (x y : Fraction) → IsProp (x ≈ y)
 ≈-prop x y = λ h k i. record { across = ℤ-set _ _ (h .across) (k .across) i }
 
-≼-prop : (x y : Pair) → IsProp (x ≼ y)
+≼-prop : (x y : Fraction) → IsProp (x ≼ y)
 ≼-prop x y = λ h k i. record { across = ≤ℤ-prop _ _ (h .across) (k .across) i }
 
-≼-of-≈ : (x y : Pair) → x ≈ y → x ≼ y
+≼-of-≈ : (x y : Fraction) → x ≈ y → x ≼ y
 ≼-of-≈ x y e = record { across = le-of-eq integerOrder (e .across) }
 
-≈-sym : (x y : Pair) → x ≈ y → y ≈ x
+≈-sym : (x y : Fraction) → x ≈ y → y ≈ x
 ≈-sym x y e = record { across = sym (e .across) }
 
 -- a q ≤ c p and c r ≤ e q: then a r q ≤ c p r ≤ e p q
-≼-trans : (x y z : Pair) → x ≼ y → y ≼ z → x ≼ z
+≼-trans : (x y z : Fraction) → x ≼ y → y ≼ z → x ≼ z
 ≼-trans x y z h k = record {
-  across = *ℤ-cancel-le (y .lower) (y .positive) (≤ℤ-trans
+  across = *ℤ-cancel-le (y .lower) (y .lower-pos) (≤ℤ-trans
       (rewritten integerOrder (*ℤ-mono (z .lower) (h .across))
       (turn Z (x .upper) (below y) (below z)) (turn Z (y .upper) (below x) (below z)))
       (rewritten integerOrder (*ℤ-mono (x .lower) (k .across)) refl (turn Z (z .upper) (below y) (below x))));
 }
 
-≈-trans : (x y z : Pair) → x ≈ y → y ≈ z → x ≈ z
+≈-trans : (x y z : Fraction) → x ≈ y → y ≈ z → x ≈ z
 ≈-trans x y z h k = record {
   across = ≤ℤ-antisymm (≼-trans x y z (≼-of-≈ x y h) (≼-of-≈ y z k) .across)
       (≼-trans z y x (≼-of-≈ z y (≈-sym y z k)) (≼-of-≈ y x (≈-sym x y h)) .across);
@@ -121,76 +108,56 @@ record _≼_ (x y : Pair) : Type 0 where
 ≈-equivalence : IsEquivRel _≈_
 ≈-equivalence = record { reflexive = λ x. record { across = refl }; symmetric = ≈-sym; transitive = ≈-trans }
 
--- ---- operations on pairs
-pair : (a : ℤ) (p : ℕ) → 1 ≤ p → Pair
-pair a p h = record { upper = a; lower = p; positive = h }
+-- ---- operations
+minus : Fraction → Fraction
+minus x = record { upper = negℤ (x .upper); lower = x .lower; lower-pos = x .lower-pos }
 
-plus : Pair → Pair → Pair
-plus x y = record {
-  upper = x .upper *ℤ below y +ℤ y .upper *ℤ below x;
-  lower = x .lower * y .lower;
-  positive = NL.mul-pos (x .positive) (y .positive);
-}
-
-times : Pair → Pair → Pair
-times x y = record { upper = x .upper *ℤ y .upper; lower = x .lower * y .lower; positive = NL.mul-pos (x .positive) (y .positive) }
-
-minus : Pair → Pair
-minus x = record { upper = negℤ (x .upper); lower = x .lower; positive = x .positive }
-
-whole : ℤ → Pair
-whole z = record { upper = z; lower = 1; positive = NL.le-refl 1 }
-
-plus-comm : (x y : Pair) → plus x y ≈ plus y x
-unfolding plus
+plus-comm : (x y : Fraction) → x ⊕ y ≈ y ⊕ x
+unfolding _⊕_
 plus-comm x y = record { across = add-commutes Z (x .upper) (below x) (y .upper) (below y) }
 
-plus-left : (x x′ y : Pair) → x ≈ x′ → plus x y ≈ plus x′ y
-unfolding plus
+plus-left : (x x′ y : Fraction) → x ≈ x′ → x ⊕ y ≈ x′ ⊕ y
+unfolding _⊕_
 plus-left x x′ y e = record {
   across = spread Z (x .upper) (below x) (y .upper) (below y) (below x′)
       ∙ ap (λ (v : ℤ). v *ℤ (below y *ℤ below y) +ℤ y .upper *ℤ below y *ℤ (below x *ℤ below x′)) (e .across)
       ∙ sym (spread′ Z (x′ .upper) (below x′) (y .upper) (below y) (below x));
 }
 
-times-comm : (x y : Pair) → times x y ≈ times y x
-unfolding times
+times-comm : (x y : Fraction) → x ⊗ y ≈ y ⊗ x
+unfolding _⊗_
 times-comm x y = record { across = mul-commutes Z (x .upper) (below x) (y .upper) (below y) }
 
-times-left : (x x′ y : Pair) → x ≈ x′ → times x y ≈ times x′ y
-unfolding times
+times-left : (x x′ y : Fraction) → x ≈ x′ → x ⊗ y ≈ x′ ⊗ y
+unfolding _⊗_
 times-left x x′ y e = record {
   across = mul-across Z (x .upper) (y .upper) (below y) (below x′)
       ∙ ap (λ (v : ℤ). v *ℤ (y .upper *ℤ below y)) (e .across)
       ∙ sym (mul-across Z (x′ .upper) (y .upper) (below y) (below x));
 }
 
-minus-resp : (x x′ : Pair) → x ≈ x′ → minus x ≈ minus x′
+minus-resp : (x x′ : Fraction) → x ≈ x′ → minus x ≈ minus x′
 unfolding minus
 minus-resp x x′ e = record {
   across = neg-mul integers (x .upper) (below x′) ∙ ap negℤ (e .across) ∙ sym (neg-mul integers (x′ .upper) (below x));
 }
 
-plus-minus : (x : Pair) → plus x (minus x) ≈ whole (pos 0)
-unfolding plus minus whole
+plus-minus : (x : Fraction) → x ⊕ minus x ≈ whole (pos 0)
+unfolding _⊕_ minus whole over
 plus-minus x = record { across = cancels integers (x .upper) (below x) }
 
--- ---- classes of pairs
+-- ---- classes
 ℚ : Type 0
-ℚ = Pair / _≈_
+ℚ = Fraction / _≈_
 
-class : Pair → ℚ
+class : Fraction → ℚ
 unfolding ℚ
 class x = cls x
 
--- equal classes are shown on pairs
-class-eq : (x y : Pair) → x ≈ y → class x ≡ class y
-unfolding ℚ class
-class-eq x y e = eq/ x y e
-
--- a commutative operation on pairs that keeps ≈ on the left gives one on classes
-module _ (op : Pair → Pair → Pair) (comm : (x y : Pair) → op x y ≈ op y x) (left : (x x′ y : Pair) → x ≈ x′ → op x y ≈ op x′ y) where
-  right : (x y y′ : Pair) → y ≈ y′ → op x y ≈ op x y′
+-- a commutative operation on fractions that keeps ≈ on the left gives one on classes
+module _ (op : Fraction → Fraction → Fraction) (comm : (x y : Fraction) → op x y ≈ op y x)
+    (left : (x x′ y : Fraction) → x ≈ x′ → op x y ≈ op x′ y) where
+  right : (x y y′ : Fraction) → y ≈ y′ → op x y ≈ op x y′
   right x y y′ e = ≈-trans _ _ _ (comm x y) (≈-trans _ _ _ (left y y′ x e) (comm y′ x))
 
   lifted : ℚ → ℚ → ℚ
@@ -204,11 +171,11 @@ module _ (op : Pair → Pair → Pair) (comm : (x y : Pair) → op x y ≈ op y 
 
 infixl 6 _+ℚ_
 _+ℚ_ : ℚ → ℚ → ℚ
-_+ℚ_ = lifted plus plus-comm plus-left
+_+ℚ_ = lifted _⊕_ plus-comm plus-left
 
 infixl 7 _*ℚ_
 _*ℚ_ : ℚ → ℚ → ℚ
-_*ℚ_ = lifted times times-comm times-left
+_*ℚ_ = lifted _⊗_ times-comm times-left
 
 negℚ : ℚ → ℚ
 unfolding ℚ /-rec
@@ -217,48 +184,48 @@ negℚ = /-rec /-set (λ x. cls (minus x)) (λ x x′ e. eq/ (minus x) (minus x�
 -- ---- the ring
 add-comm : (a b : ℚ) → a +ℚ b ≡ b +ℚ a
 unfolding _+ℚ_
-add-comm = lifted-comm plus plus-comm plus-left
+add-comm = lifted-comm _⊕_ plus-comm plus-left
 
 add-assoc : (a b c : ℚ) → a +ℚ b +ℚ c ≡ a +ℚ (b +ℚ c)
-unfolding ℚ lifted _+ℚ_ plus
+unfolding ℚ lifted _+ℚ_ _⊕_
 add-assoc = /-elim-prop₃ (λ a b c. a +ℚ b +ℚ c ≡ a +ℚ (b +ℚ c)) (λ a b c. /-set _ _)
-    (λ x y z. eq/ (plus (plus x y) z) (plus x (plus y z))
+    (λ x y z. eq/ (x ⊕ y ⊕ z) (x ⊕ (y ⊕ z))
     (record { across = add-associates Z (x .upper) (below x) (y .upper) (below y) (z .upper) (below z) }))
 
 add-zero : (a : ℚ) → a +ℚ class (whole (pos 0)) ≡ a
-unfolding ℚ lifted _+ℚ_ class plus whole
+unfolding ℚ lifted _+ℚ_ class _⊕_ whole over
 add-zero = /-elim-prop (λ a. a +ℚ class (whole (pos 0)) ≡ a) (λ a. /-set _ _)
-    (λ x. eq/ (plus x (whole (pos 0))) x (record { across = add-nothing Z (x .upper) (below x) }))
+    (λ x. eq/ (x ⊕ whole (pos 0)) x (record { across = add-nothing Z (x .upper) (below x) }))
 
 add-neg : (a : ℚ) → a +ℚ negℚ a ≡ class (whole (pos 0))
 unfolding ℚ lifted _+ℚ_ negℚ class
 add-neg = /-elim-prop (λ a. a +ℚ negℚ a ≡ class (whole (pos 0))) (λ a. /-set _ _)
-    (λ x. eq/ (plus x (minus x)) (whole (pos 0)) (plus-minus x))
+    (λ x. eq/ (x ⊕ minus x) (whole (pos 0)) (plus-minus x))
 
 mul-comm : (a b : ℚ) → a *ℚ b ≡ b *ℚ a
 unfolding _*ℚ_
-mul-comm = lifted-comm times times-comm times-left
+mul-comm = lifted-comm _⊗_ times-comm times-left
 
 mul-assoc : (a b c : ℚ) → a *ℚ b *ℚ c ≡ a *ℚ (b *ℚ c)
-unfolding ℚ lifted _*ℚ_ times
+unfolding ℚ lifted _*ℚ_ _⊗_
 mul-assoc = /-elim-prop₃ (λ a b c. a *ℚ b *ℚ c ≡ a *ℚ (b *ℚ c)) (λ a b c. /-set _ _)
-    (λ x y z. eq/ (times (times x y) z) (times x (times y z))
+    (λ x y z. eq/ (x ⊗ y ⊗ z) (x ⊗ (y ⊗ z))
     (record { across = mul-associates Z (x .upper) (below x) (y .upper) (below y) (z .upper) (below z) }))
 
 mul-one : (a : ℚ) → a *ℚ class (whole (pos 1)) ≡ a
-unfolding ℚ lifted _*ℚ_ class times whole
+unfolding ℚ lifted _*ℚ_ class _⊗_ whole over
 mul-one = /-elim-prop (λ a. a *ℚ class (whole (pos 1)) ≡ a) (λ a. /-set _ _)
-    (λ x. eq/ (times x (whole (pos 1))) x (record { across = mul-unit Z (x .upper) (below x) }))
+    (λ x. eq/ (x ⊗ whole (pos 1)) x (record { across = mul-unit Z (x .upper) (below x) }))
 
 mul-zero : (a : ℚ) → a *ℚ class (whole (pos 0)) ≡ class (whole (pos 0))
-unfolding ℚ lifted _*ℚ_ class times whole
+unfolding ℚ lifted _*ℚ_ class _⊗_ whole over
 mul-zero = /-elim-prop (λ a. a *ℚ class (whole (pos 0)) ≡ class (whole (pos 0))) (λ a. /-set _ _)
-    (λ x. eq/ (times x (whole (pos 0))) (whole (pos 0)) (record { across = mul-null Z (x .upper) (below x) }))
+    (λ x. eq/ (x ⊗ whole (pos 0)) (whole (pos 0)) (record { across = mul-null Z (x .upper) (below x) }))
 
 mul-add : (a b c : ℚ) → a *ℚ (b +ℚ c) ≡ a *ℚ b +ℚ a *ℚ c
-unfolding ℚ lifted _*ℚ_ _+ℚ_ plus times
+unfolding ℚ lifted _*ℚ_ _+ℚ_ _⊕_ _⊗_
 mul-add = /-elim-prop₃ (λ a b c. a *ℚ (b +ℚ c) ≡ a *ℚ b +ℚ a *ℚ c) (λ a b c. /-set _ _)
-    (λ x y z. eq/ (times x (plus y z)) (plus (times x y) (times x z))
+    (λ x y z. eq/ (x ⊗ (y ⊕ z)) (x ⊗ y ⊕ x ⊗ z)
     (record { across = mul-distributes Z (x .upper) (below x) (y .upper) (below y) (z .upper) (below z) }))
 
 ringℚ : Ring
@@ -283,15 +250,15 @@ ringℚ = record {
 }
 
 -- ---- the order
-orderly : Pair → Pair → HProp {0}
+orderly : Fraction → Fraction → HProp {0}
 orderly x y = (x ≼ y, ≼-prop x y)
 
-orderly-left : (x x′ y : Pair) → x ≈ x′ → orderly x y ≡ orderly x′ y
+orderly-left : (x x′ y : Fraction) → x ≈ x′ → orderly x y ≡ orderly x′ y
 unfolding orderly
 orderly-left x x′ y e = HProp-ext (orderly x y) (orderly x′ y)
     (λ h. ≼-trans x′ x y (≼-of-≈ x′ x (≈-sym x x′ e)) h) (λ h. ≼-trans x x′ y (≼-of-≈ x x′ e) h)
 
-orderly-right : (x y y′ : Pair) → y ≈ y′ → orderly x y ≡ orderly x y′
+orderly-right : (x y y′ : Fraction) → y ≈ y′ → orderly x y ≡ orderly x y′
 unfolding orderly
 orderly-right x y y′ e = HProp-ext (orderly x y) (orderly x y′)
     (λ h. ≼-trans x y y′ h (≼-of-≈ y y′ e)) (λ h. ≼-trans x y′ y h (≼-of-≈ y′ y (≈-sym y y′ e)))
@@ -322,7 +289,7 @@ unfolding ℚ leℚ orderly
 le-dec = /-elim-prop₂ (λ a b. Dec (a ≤ℚ b)) (λ a b. Dec-prop (leℚ a b .1))
     (λ x y. by x y (≤ℤ-dec (x .upper *ℤ below y) (y .upper *ℤ below x)))
   where
-    by : (x y : Pair) → Dec ((x .upper *ℤ below y) ≤ℤ (y .upper *ℤ below x)) → Dec (x ≼ y)
+    by : (x y : Fraction) → Dec ((x .upper *ℤ below y) ≤ℤ (y .upper *ℤ below x)) → Dec (x ≼ y)
     by x y (yes h) = yes (record { across = h })
     by x y (no f) = no (λ h. f (h .across))
 
@@ -332,7 +299,7 @@ le-total = /-elim-prop₂ (λ a b. ¬ (a ≤ℚ b) → b ≤ℚ a) (λ a b. Π-p
     (λ x y f. record { across = ≤ℤ-total (λ h. f (record { across = h })) })
 
 add-le : (a b c : ℚ) → a ≤ℚ b → a +ℚ c ≤ℚ b +ℚ c
-unfolding ℚ lifted leℚ orderly _+ℚ_ plus
+unfolding ℚ lifted leℚ orderly _+ℚ_ _⊕_
 add-le = /-elim-prop₃ (λ a b c. a ≤ℚ b → a +ℚ c ≤ℚ b +ℚ c) (λ a b c. Π-prop (λ _. leℚ (a +ℚ c) (b +ℚ c) .1))
     (λ x y z h. record {
       across = rewritten integerOrder
@@ -342,21 +309,21 @@ add-le = /-elim-prop₃ (λ a b c. a ≤ℚ b → a +ℚ c ≤ℚ b +ℚ c) (λ 
     })
 
 mul-nonneg : (a b : ℚ) → class (whole (pos 0)) ≤ℚ a → class (whole (pos 0)) ≤ℚ b → class (whole (pos 0)) ≤ℚ a *ℚ b
-unfolding ℚ lifted leℚ orderly class _*ℚ_ times whole
+unfolding ℚ lifted leℚ orderly class _*ℚ_ _⊗_ whole over
 mul-nonneg = /-elim-prop₂ (λ a b. class (whole (pos 0)) ≤ℚ a → class (whole (pos 0)) ≤ℚ b → class (whole (pos 0)) ≤ℚ a *ℚ b)
     (λ a b. Π-prop (λ _. Π-prop (λ _. leℚ (class (whole (pos 0))) (a *ℚ b) .1)))
     (λ x y h k. record {
       across = over-one (x .upper *ℤ y .upper) (x .lower * y .lower) (*ℤ-nonneg (x .upper) (y .upper) (upper x h) (upper y k));
     })
   where
-    upper : (x : Pair) → whole (pos 0) ≼ x → pos 0 ≤ℤ x .upper
+    upper : (x : Fraction) → whole (pos 0) ≼ x → pos 0 ≤ℤ x .upper
     upper x h = omega (signed, split-mul (pos 0) (below x), split-mul (x .upper) (pos 1), h .across)
 
     over-one : (a : ℤ) (p : ℕ) → pos 0 ≤ℤ a → (pos 0 *ℤ pos p) ≤ℤ (a *ℤ pos 1)
     over-one a p h = omega (signed, split-mul (pos 0) (pos p), split-mul a (pos 1))
 
 pub rationals : Rationals
-unfolding ℚ lifted class ringℚ leℚ orderly pair whole plus times _+ℚ_ _*ℚ_
+unfolding ℚ lifted class ringℚ leℚ orderly _+ℚ_ _*ℚ_
 rationals = record {
   order = record {
     ring = ringℚ;
@@ -369,15 +336,12 @@ rationals = record {
     add-le = λ {a} {b} c h. add-le a b c h;
     mul-nonneg = λ {a} {b} h k. mul-nonneg a b h k;
   };
-  ratio = λ a p h. class (pair a p h);
-  ratio-every = /-elim-prop _ (λ x. squash₁) (λ x. ∣ (x .upper, x .lower, x .positive, refl) ∣₁);
-  ratio-zero = λ h. class-eq (pair (pos 0) 1 h) (whole (pos 0)) (record { across = refl });
-  ratio-one = λ h. class-eq (pair (pos 1) 1 h) (whole (pos 1)) (record { across = refl });
-  ratio-add = λ a c p q h k. refl;
-  ratio-mul = λ a c p q h k. refl;
-  ratio-eq = λ a c p q h k. (
-    (λ e. effective ≈-prop ≈-equivalence (pair a p h) (pair c q k) e .across),
-    (λ e. class-eq (pair a p h) (pair c q k) (record { across = e })),
-  );
-  ratio-le = λ a c p q h k. ((λ l. l .across), (λ l. record { across = l }));
+  value = class;
+  every-value = /-elim-prop _ (λ q. squash₁) (λ x. ∣ (x, refl) ∣₁);
+  value-zero = refl;
+  value-one = refl;
+  value-plus = λ x y. refl;
+  value-times = λ x y. refl;
+  value-eq = λ x y. (eq/ x y, effective ≈-prop ≈-equivalence x y);
+  value-le = λ x y. ((λ h. h), (λ h. h));
 }

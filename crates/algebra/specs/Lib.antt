@@ -2,8 +2,9 @@
 pub mod Semiring
 pub mod Ring
 pub mod Order
-pub mod Rational
 pub mod Sum
+pub mod Fraction
+pub mod Rational
 pub mod Size
 pub mod Solver
 pub mod Smallest

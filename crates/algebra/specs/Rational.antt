@@ -1,26 +1,21 @@
--- The rational numbers, by what they promise: an ordered ring, with ≡ as its equality, of the quotients of an integer by a natural
--- number that is at least 1. Quotients are added and multiplied as at school, and compared by multiplying across.
+-- The rational numbers, by what they promise: an ordered ring, with ≡ as its equality, of the values of fractions. Values are added,
+-- multiplied, equal and in order as the fractions are.
 use mathlib.Core.Path.{_≡_}
-use Prim.Native.Nat.{ℕ, _≤_, _*_}
 use mathlib.Core.Logic.{_↔_}
-use native.Mathlib.Nat as NL
-use lib.IntN.{ℤ, pos, _+ℤ_, _*ℤ_}
-use lib.Signed.{_≤ℤ_}
+use lib.IntN.{pos}
 use Rattle.algebra.specs.Ring.{Number}
 use Rattle.algebra.specs.Order.{OrderedRing}
+use Rattle.algebra.specs.Fraction.{Fraction, whole, _⊕_, _⊗_, _≈_, _≼_}
 
 pub record Rationals : Type 1 where
   pub order : OrderedRing
-  -- a over p
-  pub ratio : (a : ℤ) (p : ℕ) → 1 ≤ p → Number (order .ring)
+  -- the number that a fraction stands for
+  pub value : Fraction → Number (order .ring)
   -- there are no other numbers
-  pub ratio-every : (x : Number (order .ring)) → ∥ ((a : ℤ) × (p : ℕ) × (h : 1 ≤ p) × (x ≡ ratio a p h)) ∥₁
-  pub ratio-zero : (h : 1 ≤ 1) → ratio (pos 0) 1 h ≡ order .ring .semiring .𝟘
-  pub ratio-one : (h : 1 ≤ 1) → ratio (pos 1) 1 h ≡ order .ring .semiring .𝟙
-  pub ratio-add : (a c : ℤ) (p q : ℕ) (h : 1 ≤ p) (k : 1 ≤ q)
-      → ratio (a *ℤ pos q +ℤ c *ℤ pos p) (p * q) (NL.mul-pos h k) ≡ order .ring .semiring ._⊹_ (ratio a p h) (ratio c q k)
-  pub ratio-mul : (a c : ℤ) (p q : ℕ) (h : 1 ≤ p) (k : 1 ≤ q)
-      → ratio (a *ℤ c) (p * q) (NL.mul-pos h k) ≡ order .ring .semiring ._·_ (ratio a p h) (ratio c q k)
-  pub ratio-eq : (a c : ℤ) (p q : ℕ) (h : 1 ≤ p) (k : 1 ≤ q) → (ratio a p h ≡ ratio c q k) ↔ (a *ℤ pos q ≡ c *ℤ pos p)
-  pub ratio-le : (a c : ℤ) (p q : ℕ) (h : 1 ≤ p) (k : 1 ≤ q)
-      → (order ._⊑_ (ratio a p h) (ratio c q k)) ↔ ((a *ℤ pos q) ≤ℤ (c *ℤ pos p))
+  pub every-value : (q : Number (order .ring)) → ∥ ((x : Fraction) × (q ≡ value x)) ∥₁
+  pub value-zero : value (whole (pos 0)) ≡ order .ring .semiring .𝟘
+  pub value-one : value (whole (pos 1)) ≡ order .ring .semiring .𝟙
+  pub value-plus : (x y : Fraction) → value (x ⊕ y) ≡ order .ring .semiring ._⊹_ (value x) (value y)
+  pub value-times : (x y : Fraction) → value (x ⊗ y) ≡ order .ring .semiring ._·_ (value x) (value y)
+  pub value-eq : (x y : Fraction) → (x ≈ y) ↔ (value x ≡ value y)
+  pub value-le : (x y : Fraction) → (x ≼ y) ↔ order ._⊑_ (value x) (value y)

@@ -4,7 +4,7 @@ use lib.Dec.{T, eqb→eq}
 use lib.IntN.{ℤ, pos, negsuc, _*ℤ_}
 use Rattle.algebra.specs.Sum.{accumulate}
 use Rattle.algebra.proofs.Table.{each-passes}
-use Rattle.exact.specs.Fraction.{Fraction, over, whole, _⊕_, _⊗_, overSuc, oneTo, zeroTo, _≈_}
+use Rattle.algebra.specs.Fraction.{Fraction, over, whole, _⊕_, _⊗_, overSuc, oneTo, zeroTo, _≈_}
 use Rattle.exact.specs.Frequency.{a, b, withNext, countCoefficients, countCoefficient}
 use Rattle.exact.specs.Severity.{density, convolution}
 use Rattle.exact.specs.Amount.{exactAmount}

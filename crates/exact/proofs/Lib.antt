@@ -1,7 +1,6 @@
--- Bottom up: the recursion over any semiring, then fractions as rational numbers, then the statements.
+-- Bottom up: the recursion over any semiring, then the law and the amounts as rational numbers, then the statements.
 pub mod Convolution
 pub mod Sundt
-pub mod Value
 pub mod Frequency
 pub mod Amount
 pub mod Recursion

@@ -11,13 +11,13 @@ use Rattle.algebra.specs.Sum.{accumulate, sum}
 use Rattle.algebra.proofs.Semiring.{ring, ring-units, nat-zero, nat-mul}
 use Rattle.algebra.proofs.Ring.{int-pos, int-add, int-mul}
 use Rattle.algebra.proofs.Sum.{sum-zero, sum-cong, sum-scale, sum-cut}
-use Rattle.exact.specs.Fraction.{Fraction, over, whole, overSuc, zeroTo}
+use Rattle.algebra.specs.Fraction.{Fraction, over, whole, overSuc, zeroTo}
 use Rattle.exact.specs.Frequency.{Frequency, a, b, countCoefficient}
 use Rattle.exact.specs.Severity.{Severity, totalWeight, weight, density, convolution}
 use Rattle.exact.specs.Amount.{exactAmount}
 use Rattle.exact.specs.Recursion.{PublishedRecursion, RowRecursion, factor, WholeRecursion, WholeConvolution, FirstEntries}
-use Rattle.exact.proofs.Value.{order, ℚ, value, eq-of-value, value-plus, value-times, value-oneTo}
-use Rattle.exact.proofs.Value.{value-int, value-nat, value-zero, value-one, value-over, value-overSuc}
+use Rattle.algebra.proofs.Value.{order, ℚ, value, eq-of-value, value-plus, value-times, value-oneTo}
+use Rattle.algebra.proofs.Value.{value-int, value-nat, value-zero, value-one, value-over, value-overSuc}
 use Rattle.exact.proofs.Convolution.{convolve}
 use Rattle.exact.proofs.Sundt.{row-next, sundt-rows, sundt-published}
 use Rattle.exact.proofs.Frequency.{count-equations, count-class}

@@ -1,6 +1,6 @@
 -- The exact amounts, by convolutions and never by the recursion.
 use Prim.Native.Nat.{ℕ, zero, suc, _-_}
-use Rattle.exact.specs.Fraction.{Fraction, _⊗_, oneTo, zeroTo}
+use Rattle.algebra.specs.Fraction.{Fraction, _⊗_, oneTo, zeroTo}
 use Rattle.exact.specs.Frequency.{Frequency, countCoefficient}
 use Rattle.exact.specs.Severity.{Severity, density, convolution}
 

@@ -5,7 +5,7 @@ use Prim.Native.Nat.{ℕ, _-_, _≤_}
 use lib.Dec.{eqb, lit≤}
 use lib.IntN.{ℤ, pos, negsuc, _*ℤ_}
 use lib.ListN.{getD}
-use Rattle.exact.specs.Fraction.{Fraction, over, whole, _≈_}
+use Rattle.algebra.specs.Fraction.{Fraction, over, whole, _≈_}
 use Rattle.exact.specs.Frequency.{Frequency}
 use Rattle.exact.specs.Severity.{Severity, totalWeight}
 use Rattle.exact.specs.Amount.{exactAmount}

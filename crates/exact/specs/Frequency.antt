@@ -4,7 +4,7 @@ use mathlib.Core.List.{List, [], _∷_}
 use Prim.Native.Nat.{ℕ, zero, suc, _-_, _≤_, min}
 use lib.IntN.{ℤ, pos}
 use lib.ListN.{getD}
-use Rattle.exact.specs.Fraction.{Fraction, over, whole, _⊕_, _⊗_, overSuc, oneTo}
+use Rattle.algebra.specs.Fraction.{Fraction, over, whole, _⊕_, _⊗_, overSuc, oneTo}
 
 -- order k, divisor D, and terms A_i and B_i for i from 1 to k
 pub record Frequency : Type 0 where
@@ -32,7 +32,7 @@ unfoldable pub countCoefficients : Frequency → ℕ → List Fraction
 countCoefficients law zero = whole (pos 1) ∷ []
 countCoefficients law (suc n) = withNext law n (countCoefficients law n)
 
--- P_n (the paper's "count coefficient"): the chance of n claims, divided by the chance of none
+-- P_n (the paper's "count coefficient"); where the law is a distribution, the chance of n claims divided by the chance of none
 unfoldable pub countCoefficient : Frequency → ℕ → Fraction
 countCoefficient law n = getD (countCoefficients law n) 0 (whole (pos 0))
 

@@ -1,5 +1,4 @@
--- The exact amounts of the paper, and what is claimed of them. To be read in this order.
-pub mod Fraction
+-- The exact amounts of the paper, and what is claimed of them, on the fractions of algebra/specs/Fraction. To be read in this order.
 pub mod Frequency
 pub mod Severity
 pub mod Amount

@@ -2,7 +2,7 @@
 use Prim.Native.Nat.{ℕ, suc, _-_, _*_, min}
 use lib.IntN.{ℤ, pos, _+ℤ_, _*ℤ_}
 use lib.ListN.{length}
-use Rattle.exact.specs.Fraction.{Fraction, whole, _⊕_, _⊗_, overSuc, oneTo, _≈_}
+use Rattle.algebra.specs.Fraction.{Fraction, whole, _⊕_, _⊗_, overSuc, oneTo, _≈_}
 use Rattle.exact.specs.Frequency.{Frequency, a, b}
 use Rattle.exact.specs.Severity.{Severity, totalWeight, weight, density, convolution}
 use Rattle.exact.specs.Amount.{exactAmount, exactRow}

@@ -3,7 +3,7 @@ use mathlib.Core.List.{List, [], _∷_}
 use Prim.Native.Nat.{ℕ, zero, suc, _+_, _-_, _≤_, _<_}
 use lib.IntN.{pos}
 use lib.ListN.{getD}
-use Rattle.exact.specs.Fraction.{Fraction, over, whole, _⊗_, oneTo, _≈_}
+use Rattle.algebra.specs.Fraction.{Fraction, over, whole, _⊗_, oneTo, _≈_}
 
 -- W, the sum of the weights
 abbrev pub totalWeight : List ℕ → ℕ

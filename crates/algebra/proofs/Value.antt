@@ -1,0 +1,130 @@
+-- The rational number that a fraction stands for. A claim about fractions is proved as an equation or an order between rational numbers;
+-- whole numbers, quotients and sums of fractions are what they should be there.
+use mathlib.Core.Path.{_≡_, refl, sym, _∙_, ap, ap₂}
+use Prim.Native.Nat.{ℕ, zero, suc, _+_, _≤_}
+use native.Mathlib.Omega.{arith}
+use lib.IntN.{ℤ, pos, negsuc, _+ℤ_}
+use Rattle.algebra.specs.Semiring.{Semiring, nat}
+use Rattle.algebra.specs.Ring.{int}
+use Rattle.algebra.specs.Order.{OrderedRing}
+use Rattle.algebra.specs.Sum.{accumulate, sum}
+use Rattle.algebra.specs.Fraction.{Fraction, over, whole, _⊕_, _⊗_, overSuc, _≈_, _≼_, oneTo, zeroTo}
+use Rattle.algebra.proofs.Semiring.{ring, ring-units, nat-zero, nat-suc}
+use Rattle.algebra.proofs.Ring.{neg-unique}
+use Rattle.algebra.proofs.Integer.{integers, signed, split-add}
+use Rattle.algebra.proofs.Sum.{sum-related}
+use Rattle.algebra.proofs.Rational.{rationals}
+
+-- ---- what the laws of whole numbers and quotients come to
+module _ (S : Semiring) where
+  open Semiring S using (carrier as A, 𝟙, _⊹_, _·_)
+
+  infixl 6 _⊹_
+  infixl 7 _·_
+  over-one : (a c : A) → (a ⊹ c) · (𝟙 · 𝟙) ≡ (a · 𝟙 ⊹ c · 𝟙) · 𝟙
+  over-one a c = simp ring-units
+
+  over-itself : (n z : A) → n · z · 𝟙 ≡ z · (𝟙 · n)
+  over-itself n z = simp (ring, ring-units)
+
+  over-product : (n u l : A) → n · u · l ≡ u · (𝟙 · (l · n))
+  over-product n u l = simp (ring, ring-units)
+
+abbrev Z : Semiring
+Z = integers .semiring
+
+-- ---- values
+abbrev pub order : OrderedRing
+order = rationals .order
+
+abbrev pub ℚ : Semiring
+ℚ = order .ring .semiring
+
+open Semiring ℚ using (carrier as A, 𝟘, 𝟙, _⊹_, _·_)
+
+infixl 6 _⊹_
+infixl 7 _·_
+pub value : Fraction → ℚ .carrier
+value x = rationals .value x
+
+-- ---- the promises once more, as lemmas that `simp` and `rw` can name
+pub value-eq : {x y : Fraction} → x ≈ y → value x ≡ value y
+unfolding value
+value-eq {x} {y} = rationals .value-eq x y .0
+
+pub eq-of-value : {x y : Fraction} → value x ≡ value y → x ≈ y
+unfolding value
+eq-of-value {x} {y} = rationals .value-eq x y .1
+
+pub value-le : {x y : Fraction} → x ≼ y → order ._⊑_ (value x) (value y)
+unfolding value
+value-le {x} {y} = rationals .value-le x y .0
+
+pub le-of-value : {x y : Fraction} → order ._⊑_ (value x) (value y) → x ≼ y
+unfolding value
+le-of-value {x} {y} = rationals .value-le x y .1
+
+pub value-zero : value (whole (pos 0)) ≡ 𝟘
+unfolding value
+value-zero = rationals .value-zero
+
+pub value-one : value (whole (pos 1)) ≡ 𝟙
+unfolding value
+value-one = rationals .value-one
+
+pub value-plus : (x y : Fraction) → value (x ⊕ y) ≡ value x ⊹ value y
+unfolding value
+value-plus = rationals .value-plus
+
+pub value-times : (x y : Fraction) → value (x ⊗ y) ≡ value x · value y
+unfolding value
+value-times = rationals .value-times
+
+-- ---- whole numbers
+value-add : (a c : ℤ) → value (whole (a +ℤ c)) ≡ value (whole a) ⊹ value (whole c)
+unfolding whole over _⊕_
+value-add a c = value-eq {x = whole (a +ℤ c)} {y = whole a ⊕ whole c} (record { across = over-one Z a c }) ∙ value-plus (whole a) (whole c)
+
+pub value-nat : (n : ℕ) → value (whole (pos n)) ≡ nat ℚ n
+value-nat zero = value-zero ∙ sym (nat-zero ℚ)
+value-nat (suc n) = ap (λ (m : ℕ). value (whole (pos m))) one-more ∙ value-add (pos n) (pos 1)
+    ∙ ap₂ _⊹_ (value-nat n) value-one ∙ sym (nat-suc ℚ n)
+  where
+    one-more : suc n ≡ n + 1
+    one-more = omega arith
+
+pub value-int : (z : ℤ) → value (whole z) ≡ int (order .ring) z
+unfolding int
+value-int (pos n) = value-nat n
+value-int (negsuc n) = neg-unique (order .ring) (nat ℚ (suc n)) (value (whole (negsuc n)))
+    (ap (λ (v : A). value (whole (negsuc n)) ⊹ v) (sym (value-nat (suc n))) ∙ sym (value-add (negsuc n) (pos (suc n)))
+    ∙ ap (λ (z : ℤ). value (whole z)) none ∙ value-zero)
+  where
+    none : negsuc n +ℤ pos (suc n) ≡ pos 0
+    none = omega (signed, split-add (negsuc n) (pos (suc n)))
+
+-- ---- quotients, times their divisors
+times-nat : (n : ℕ) (x y : Fraction) → whole (pos n) ⊗ x ≈ y → nat ℚ n · value x ≡ value y
+times-nat n x y e = ap (λ (v : A). v · value x) (sym (value-nat n)) ∙ sym (value-times (whole (pos n)) x) ∙ value-eq e
+
+pub value-over : (z : ℤ) (n : ℕ) (h : 1 ≤ n) → nat ℚ n · value (over z n h) ≡ int (order .ring) z
+unfolding whole over _⊗_
+value-over z n h = times-nat n (over z n h) (whole z) (record { across = over-itself Z (pos n) z }) ∙ value-int z
+
+pub value-overSuc : (x : Fraction) (n : ℕ) → nat ℚ (suc n) · value (overSuc x n) ≡ value x
+unfolding whole over overSuc _⊗_
+value-overSuc x n = times-nat (suc n) (overSuc x n) x
+    (record { across = over-product Z (pos (suc n)) (x .upper) (pos (x .lower)) })
+
+-- ---- sums
+value-accumulate : (n : ℕ) (g : ℕ → Fraction) → value (accumulate (whole (pos 0)) _⊕_ n g) ≡ sum ℚ n (λ i. value (g i))
+value-accumulate n g = sum-related (λ (x : Fraction) (v : A). value x ≡ v) (whole (pos 0)) _⊕_ 𝟘 _⊹_ value-zero
+    (λ x y u v p q. value-plus x y ∙ ap₂ _⊹_ p q) n g (λ i. value (g i)) (λ i l. refl)
+
+pub value-oneTo : (n : ℕ) (g : ℕ → Fraction) → value (oneTo n g) ≡ sum ℚ n (λ i. value (g (suc i)))
+unfolding oneTo
+value-oneTo n g = value-accumulate n (λ i. g (suc i))
+
+pub value-zeroTo : (n : ℕ) (g : ℕ → Fraction) → value (zeroTo n g) ≡ sum ℚ (suc n) (λ i. value (g i))
+unfolding zeroTo
+value-zeroTo n g = value-accumulate (suc n) g
