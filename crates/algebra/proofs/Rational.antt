@@ -112,10 +112,6 @@ below x = pos (x .lower)
 minus : Fraction → Fraction
 minus x = record { upper = negℤ (x .upper); lower = x .lower; lower-pos = x .lower-pos }
 
-plus-comm : (x y : Fraction) → x ⊕ y ≈ y ⊕ x
-unfolding _⊕_
-plus-comm x y = record { across = add-commutes Z (x .upper) (below x) (y .upper) (below y) }
-
 plus-left : (x x′ y : Fraction) → x ≈ x′ → x ⊕ y ≈ x′ ⊕ y
 unfolding _⊕_
 plus-left x x′ y e = record {
@@ -123,6 +119,10 @@ plus-left x x′ y e = record {
       ∙ ap (λ (v : ℤ). v *ℤ (below y *ℤ below y) +ℤ y .upper *ℤ below y *ℤ (below x *ℤ below x′)) (e .across)
       ∙ sym (spread′ Z (x′ .upper) (below x′) (y .upper) (below y) (below x));
 }
+
+plus-comm : (x y : Fraction) → x ⊕ y ≈ y ⊕ x
+unfolding _⊕_
+plus-comm x y = record { across = add-commutes Z (x .upper) (below x) (y .upper) (below y) }
 
 times-comm : (x y : Fraction) → x ⊗ y ≈ y ⊗ x
 unfolding _⊗_
