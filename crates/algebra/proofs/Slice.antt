@@ -1,12 +1,14 @@
 -- Laws of lent slices, from the kit's laws of `++`, `take` and `drop`, which move the seam between two parts of a list.
-use mathlib.Core.Path.{_≡_, sym, _∙_, ap}
+use mathlib.Core.Path.{_≡_, refl, sym, _∙_, ap}
 use mathlib.Core.List.{List, [], _∷_, _++_, append-assoc}
-use Prim.Native.Nat.{ℕ, suc, _+_, _-_}
+use mathlib.Core.Logic.{_⊎_, inl, inr}
+use Prim.Native.Nat.{ℕ, zero, suc, _+_, _-_, _<_}
+use native.Mathlib.Nat as NL
 use native.Mathlib.Numerals.{add-one}
 use native.Mathlib.Omega.{arith}
-use lib.ListN.{length, set, getD, drop, length-append, length-drop}
-use lib.Seq.{take-all, drop-cons, set-append-seam, drop-append-add, drop-drop}
-use Rattle.algebra.specs.Slice.{written, DropNext, PartToEnd, WrittenLength, WrittenNext, WrittenAgain}
+use lib.ListN.{length, set, getD, drop, length-append, length-drop, List·getD-append}
+use lib.Seq.{getD-at, take-all, drop-cons, set-append-seam, drop-append-add, drop-drop}
+use Rattle.algebra.specs.Slice.{listed, written, DropNext, PartToEnd, ListedLength, ListedAt, WrittenLength, WrittenNext, WrittenAgain}
 
 module _ {A : Type 0} where
   pub drop-next : DropNext A
@@ -14,6 +16,20 @@ module _ {A : Type 0} where
 
   pub part-to-end : PartToEnd A
   part-to-end l a = take-all (length l - a) (drop a l) (simp length-drop (omega arith))
+
+  pub listed-length : ListedLength A
+  unfolding listed
+  listed-length f zero = refl
+  listed-length f (suc n) = simp length-append (omega (arith, listed-length f n))
+
+  pub listed-at : ListedAt A
+  unfolding listed
+  listed-at f zero i d h = absurd (NL.not-suc-le-zero h)
+  listed-at f (suc n) i d h = by (listed-at f n i d) (NL.eq-or-lt-of-le (NL.le-of-suc-le-suc h))
+    where
+      by : (i < n → getD (listed f n) i d ≡ f i) → (i ≡ n) ⊎ (i < n) → getD (listed f n ++ (f n ∷ [])) i d ≡ f i
+      by earlier (inl e) = getD-at (listed f n) (f n) [] d i (listed-length f n ∙ sym e) ∙ ap f (sym e)
+      by earlier (inr l) = List·getD-append (listed f n) (f n ∷ []) d i (omega (arith, listed-length f n)) ∙ earlier l
 
   pub written-length : WrittenLength A
   written-length front row h = simp (length-append, length-drop) (omega arith)

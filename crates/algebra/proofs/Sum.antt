@@ -3,6 +3,7 @@ use mathlib.Core.Path.{_≡_, refl, sym, _∙_, ap, ap₂}
 use Prim.Native.Nat.{ℕ, zero, suc, _-_, _<_, _≤_, min, _+_}
 use native.Mathlib.Nat as NL
 use native.Mathlib.Decide.{decLe}
+use native.Mathlib.Numerals.{add-one}
 use native.Mathlib.Omega.{arith}
 use Rattle.algebra.specs.Semiring.{Semiring}
 use Rattle.algebra.specs.Sum.{accumulate, sum, SumRelated, SumAdd, SumScale, SumExchange, SumShift, SumCut, SumDiagonals, SumTriangle}
@@ -14,6 +15,12 @@ sum-related Rel 𝟘 plus 𝟘′ plus′ none more zero f g h = none
 sum-related Rel 𝟘 plus 𝟘′ plus′ none more (suc n) f g h =
     more (accumulate 𝟘 plus n f) (f n) (accumulate 𝟘′ plus′ n g) (g n)
     (sum-related Rel 𝟘 plus 𝟘′ plus′ none more n f g (λ i l. h i (omega arith))) (h n (omega arith))
+
+-- one term more, as a loop adds it
+pub accumulate-next : {A : Type 0} (𝟘 : A) (plus : A → A → A) (n : ℕ) (f : ℕ → A)
+    → plus (accumulate 𝟘 plus n f) (f n) ≡ accumulate 𝟘 plus (n + 1) f
+unfolding accumulate
+accumulate-next 𝟘 plus n f = ap (λ (m : ℕ). accumulate 𝟘 plus m f) (sym (add-one n))
 
 -- equal terms, equal sums; only the terms below n count
 pub accumulate-cong : {A : Type 0} (𝟘 : A) (plus : A → A → A) (n : ℕ) {f g : ℕ → A} → ((i : ℕ) → i < n → f i ≡ g i)

@@ -1,8 +1,13 @@
 -- Lent slices as lists: what a loop still has to read, and rows that are written from the front.
 use mathlib.Core.Path.{_≡_}
 use mathlib.Core.List.{List, [], _∷_, _++_}
-use Prim.Native.Nat.{ℕ, _+_, _-_, _≤_, _<_}
+use Prim.Native.Nat.{ℕ, zero, suc, _+_, _-_, _≤_, _<_}
 use lib.ListN.{length, getD, set, take, drop}
+
+-- f 0, f 1, .., f (n - 1)
+unfoldable pub listed : {A : Type 0} → (ℕ → A) → ℕ → List A
+listed f zero = []
+listed f (suc n) = listed f n ++ (f n ∷ [])
 
 -- the row after `front` was written over its first places; the later places keep what they held
 abbrev pub written : {A : Type 0} → List A → List A → List A
@@ -16,6 +21,12 @@ module _ (A : Type 0) where
   -- the part from a to the end is the list from a on
   abbrev pub PartToEnd : Type 0
   PartToEnd = (l : List A) (a : ℕ) → take (length l - a) (drop a l) ≡ drop a l
+
+  abbrev pub ListedLength : Type 0
+  ListedLength = (f : ℕ → A) (n : ℕ) → length (listed f n) ≡ n
+
+  abbrev pub ListedAt : Type 0
+  ListedAt = (f : ℕ → A) (n i : ℕ) (d : A) → i < n → getD (listed f n) i d ≡ f i
 
   abbrev pub WrittenLength : Type 0
   WrittenLength = (front row : List A) → length front ≤ length row → length (written front row) ≡ length row

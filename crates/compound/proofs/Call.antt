@@ -1,0 +1,93 @@
+-- What an answer says of its job: the checks are a chain of conditions, and an acceptance passed each of them.
+use mathlib.Core.Path.{_≡_, refl, ap}
+use mathlib.Core.Bool.{Bool, true, false, _||_, cond}
+use mathlib.Core.List.{List, _++_}
+use Prim.Native.Nat.{ℕ, suc, _+_, _≤_, _<_, zero-le}
+use native.Mathlib.Nat as NL
+use native.Mathlib.Omega.{arith}
+use borrow.Author.Tests.{ltb-false}
+use lib.Dec.{ltb}
+use lib.IntN.{ℤ, pos, natAbs}
+use lib.ListN.{length, getD}
+use Rattle.algebra.specs.Smallest.{smallest}
+use Rattle.algebra.proofs.Smallest.{smallest-finds}
+use Rattle.exact.specs.Severity.{totalWeight}
+use Rattle.model.specs.declared.Job.{Job}
+use Rattle.model.specs.Answer.{Condition, accepted, firstOf}
+use Rattle.model.proofs.Answer.{passed}
+use Rattle.compound.specs.Entry.{unit, beyond}
+use Rattle.compound.specs.Curve.{Rows, curveRows}
+use Rattle.compound.specs.Call.{Lent, outside, termLimit, wrongTerm, wrongStart, shorter, workPlaces, tooShort, checks}
+use Rattle.compound.specs.Room.{Limits, LongEnough}
+
+-- ---- tests
+pub or-left : (p q : Bool) → (p || q) ≡ false → p ≡ false
+or-left false q e = refl
+or-left true q e = e
+
+pub or-right : (p q : Bool) → (p || q) ≡ false → q ≡ false
+or-right false q e = e
+or-right true q e = cc
+
+within : (least most n : ℕ) → outside least most n ≡ false → (least ≤ n) × (n ≤ most)
+within least most n e = (ltb-false n least (or-left (ltb n least) (ltb most n) e), ltb-false most n (or-right (ltb n least) (ltb most n) e))
+
+-- ---- checks 1 to 8
+limit-most : (t : Bool) → cond t 1000 0 ≤ 1000
+limit-most true = NL.le-refl 1000
+limit-most false = zero-le
+
+module _ (job : Job) (weights : List ℕ) (lent : Lent) where
+  pub checked-limits : (rest : List Condition) → firstOf (checks job weights lent ++ rest) ≡ accepted
+      → Limits job weights × LongEnough (job .last + 1) lent × (firstOf rest ≡ accepted)
+  checked-limits rest e =
+      let order = passed _ _ _ _ e in
+      let divisor = passed _ _ _ _ (order .1) in
+      let term = passed _ _ _ _ (divisor .1) in
+      let start = passed _ _ _ _ (term .1) in
+      let severities = passed _ _ _ _ (start .1) in
+      let weight = passed _ _ _ _ (severities .1) in
+      let last = passed _ _ _ _ (weight .1) in
+      let room = passed _ _ _ _ (last .1) in
+      let ends = within 1 unit (job .start .high) (or-right (ltb (job .start .high) (job .start .low)) _ (start .0)) in (
+        record {
+          order-least = within 1 4 _ (order .0) .0;
+          order-most = within 1 4 _ (order .0) .1;
+          divisor-least = within 1 1000 _ (divisor .0) .0;
+          divisor-most = within 1 1000 _ (divisor .0) .1;
+          a-small = λ i l. small i (job .law .a) (or-left _ _ (right (term .0) i l));
+          b-small = λ i l. small i (job .law .b) (or-right (beyond (termLimit (job .law .order) i) (getD (job .law .a) i (pos 0))) _ (right (term .0) i l));
+          start-order = ltb-false (job .start .high) (job .start .low) (or-left _ _ (start .0));
+          start-most = ends .1;
+          severities-most = within 1 500 _ (severities .0) .1;
+          weights-least = within 1 1000 _ (weight .0) .0;
+          weights-most = within 1 1000 _ (weight .0) .1;
+          last-most = ltb-false 500 (job .last) (last .0);
+        },
+        long (room .0),
+        room .1,
+      )
+    where
+      -- a test for each row
+      long : tooShort (job .last + 1) lent ≡ false → LongEnough (job .last + 1) lent
+      long e =
+          let low = shorter (job .last + 1) (lent .low) in
+          let high = shorter (job .last + 1) (lent .high) in
+          let bound = shorter (job .last + 1) (lent .bound) in
+          let three = or-left (low || high || bound) (shorter (workPlaces (job .last + 1)) (lent .work)) e in
+          let two = or-left (low || high) bound three in
+          record {
+            low-long = ltb-false _ _ (or-left low high two);
+            high-long = ltb-false _ _ (or-right low high two);
+            bound-long = ltb-false _ _ (or-right (low || high) bound three);
+            work-long = ltb-false _ _ (or-right (low || high || bound) (shorter (workPlaces (job .last + 1)) (lent .work)) e);
+          }
+
+      -- no term is wrong
+      right : ltb (smallest (wrongTerm (job .law)) 4) 4 ≡ false → (i : ℕ) → i < 4 → wrongTerm (job .law) i ≡ false
+      right e i l = smallest-finds (wrongTerm (job .law)) 4 .1 i (omega (arith, ltb-false (smallest (wrongTerm (job .law)) 4) 4 e))
+
+      small : (i : ℕ) (terms : List ℤ) → beyond (termLimit (job .law .order) i) (getD terms i (pos 0)) ≡ false
+          → natAbs (getD terms i (pos 0)) ≤ 1000
+      small i terms e = NL.le-trans (ltb-false (termLimit (job .law .order) i) (natAbs (getD terms i (pos 0))) e)
+          (limit-most (ltb i (job .law .order)))

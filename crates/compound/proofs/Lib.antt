@@ -1,0 +1,5 @@
+-- Proofs that the functions of the crate share.
+pub mod Call
+pub mod Curve
+pub mod Scaled
+pub mod Sizes

@@ -1,0 +1,65 @@
+-- Entries of a row, and what the outward rule does with them.
+use mathlib.Core.Bool.{Bool, _||_}
+use Prim.Native.Nat.{ℕ, _*_}
+use lib.Dec.{ltb}
+use lib.IntN.{ℤ, pos, negsuc, natAbs, _+ℤ_, _*ℤ_}
+use lib.Signed.{ltZ}
+use Rattle.algebra.specs.Sum.{accumulate}
+use Rattle.outward.specs.Division.{floorDiv, ceilDiv}
+use Rattle.compound.specs.declared.Entry.{Entry}
+
+-- ---- sums of entries, column by column
+abbrev pub none : Entry
+none = record { low = pos 0; high = pos 0; bound = pos 0 }
+
+abbrev pub plus : Entry → Entry → Entry
+plus e f = record { low = e .low +ℤ f .low; high = e .high +ℤ f .high; bound = e .bound +ℤ f .bound }
+
+-- f 0 + f 1 + .. + f (n - 1)
+abbrev pub sumOf : ℕ → (ℕ → Entry) → Entry
+sumOf = accumulate none plus
+
+-- ---- a factor times an entry
+-- "For the low sum, a factor that is zero or more takes the entry's low, a negative factor its high."
+abbrev pub lowPart : ℤ → Entry → ℤ
+lowPart (pos n) e = pos n *ℤ e .low
+lowPart (negsuc n) e = negsuc n *ℤ e .high
+
+-- "The high sum is the other way about."
+abbrev pub highPart : ℤ → Entry → ℤ
+highPart (pos n) e = pos n *ℤ e .high
+highPart (negsuc n) e = negsuc n *ℤ e .low
+
+-- "the factors' sizes times the entries' bounds"
+abbrev pub boundPart : ℤ → Entry → ℤ
+boundPart f e = pos (natAbs f) *ℤ e .bound
+
+unfoldable pub scaled : ℤ → Entry → Entry
+scaled f e = record { low = lowPart f e; high = highPart f e; bound = boundPart f e }
+
+-- ---- division
+-- what rounding may add to the gap, by the divisor: "plus one"
+abbrev pub allowance : ℕ → ℤ
+allowance d = pos 1
+
+-- "Low is the low sum divided and rounded down, towards minus infinity. High is the high sum divided and rounded up. Each sum is divided
+-- once. Bound is the sum of the factors' sizes times the entries' bounds, divided by the same divisor, rounded up, plus one."
+unfoldable pub rounded : ℕ → Entry → Entry
+rounded d s = record { low = floorDiv (s .low) d; high = ceilDiv (s .high) d; bound = ceilDiv (s .bound) d +ℤ allowance d }
+
+-- ---- faults
+-- U, the paper's "unit", which stands for chance 1
+abbrev pub unit : ℕ
+unit = 1000000000
+
+-- z lies outside -limit to limit
+abbrev pub beyond : ℕ → ℤ → Bool
+beyond limit z = ltb limit (natAbs z)
+
+-- "a low or high .. lies outside -2U to 2U"
+abbrev pub outOfRange : Entry → Bool
+outOfRange e = beyond (2 * unit) (e .low) || beyond (2 * unit) (e .high)
+
+-- "a bound .. is above U"
+abbrev pub boundTooLarge : Entry → Bool
+boundTooLarge e = ltZ (pos unit) (e .bound)

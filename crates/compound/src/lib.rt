@@ -1,0 +1,30 @@
+// The curve by the outward rule: every chance as a low and a high with a bound on their gap.
+
+mod rule;
+mod term;
+
+// An entry of a row, in units.
+pub struct Entry {
+    pub low: i64,
+    pub high: i64,
+    pub bound: i64,
+}
+
+// Why the curve call refuses.
+pub enum Reason {
+    Order,
+    Divisor,
+    Term,
+    Start,
+    Severities,
+    Weights,
+    Last,
+    Room,
+    Range,
+    Bound,
+}
+
+pub enum CurveAnswer {
+    Accepted,
+    Refused(Reason, usize),
+}

@@ -1,0 +1,49 @@
+// What the outward rule does with entries.
+
+use super::Entry;
+ghost use mathlib.Core.Path.{_≡_};
+ghost use mathlib.Core.Bool.{_||_};
+ghost use Prim.Native.Nat.{_≤_, _<_, _*_, _^_};
+ghost use lib.IntN.{pos, natAbs, _+ℤ_};
+ghost use lib.Signed.{ltZ, _≤ℤ_};
+ghost use mir.Syntax.{w64};
+ghost use mir.Val.{SFits};
+ghost use Rattle.outward.specs.Division.{ceilDiv};
+ghost use Rattle.compound.specs.Entry.{plus, scaled, allowance, rounded, unit, beyond, outOfRange, boundTooLarge};
+ghost use Rattle.compound.specs.Room.{AddRoom};
+
+const UNIT: i64 = 1_000_000_000;
+
+// The sums with a factor times an entry added: a factor below 0 takes the entry's other end.
+pub fn add_scaled(sums: Entry, factor: i64, low: i64, high: i64, bound: i64) -> Entry
+    requires { ⌜ AddRoom sums factor low high bound ⌝ }
+    ensures { λ r. ⌜ r ≡ plus sums (scaled factor (record { low = low; high = high; bound = bound })) ⌝ }
+{
+    if factor < 0 {
+        Entry {
+            low: sums.low + factor * high,
+            high: sums.high + factor * low,
+            bound: sums.bound - factor * bound,
+        }
+    } else {
+        Entry {
+            low: sums.low + factor * low,
+            high: sums.high + factor * high,
+            bound: sums.bound + factor * bound,
+        }
+    }
+}
+
+// The sums divided once each, outward; the bound has one more for the rounding.
+pub fn divide_sums(sums: Entry, divisor: u64) -> Entry
+    requires { ⌜ (1 ≤ divisor) × (divisor < 2 ^ 63) × SFits w64 (ceilDiv (sums .bound) divisor +ℤ pos 1) ⌝ }
+    ensures { λ r. ⌜ r ≡ rounded divisor sums ⌝ }
+{
+    let ends = outward::divide(sums.low, sums.high, divisor);
+    let bound = outward::ceil_div(sums.bound, divisor);
+    Entry {
+        low: ends.low,
+        high: ends.high,
+        bound: bound + 1,
+    }
+}

@@ -1,0 +1,37 @@
+-- Laws of `firstOf`, by induction on the list of conditions.
+use mathlib.Core.Path.{_≡_, refl, ap}
+use mathlib.Core.Bool.{Bool, true, false, cond}
+use mathlib.Core.List.{List, [], _∷_, _++_}
+use Prim.Native.Nat.{ℕ, suc}
+use native.Mathlib.Nat as NL
+use borrow.Author.Tests.{ne-eqb}
+use lib.Dec.{T, ltb, eqb, ltb→lt}
+use Rattle.algebra.specs.Table.{every}
+use Rattle.algebra.proofs.Table.{and-left, and-right}
+use Rattle.model.specs.Answer.{Answer, Condition, accepted, refused, isAccepted, condition, firstOf}
+
+-- the first condition of a list that refuses nothing
+pub passed : (t : Bool) (number place : ℕ) (rest : List Condition) → firstOf (condition t (suc number) place ∷ rest) ≡ accepted
+    → (t ≡ false) × (firstOf rest ≡ accepted)
+unfolding firstOf
+passed true number place rest e = absurd (NL.suc-ne-zero number (ap (λ (a : Answer). a .number) e))
+passed false number place rest e = (refl, e)
+
+-- each condition has a number of its own, which is not the acceptance's 0
+abbrev pub numbered : List Condition → Bool
+numbered = every (λ c. ltb 0 (c .number))
+
+-- two lists, one after the other: the second counts where the first refuses nothing
+pub first-append : (cs ds : List Condition) → T (numbered cs) → firstOf (cs ++ ds) ≡ cond (isAccepted (firstOf cs)) (firstOf ds) (firstOf cs)
+unfolding firstOf
+first-append [] ds t = refl
+first-append (c ∷ cs) ds t = by (c .holds) (first-append cs ds (and-right (ltb 0 (c .number)) (numbered cs) t))
+  where
+    refuses : eqb (c .number) 0 ≡ false
+    refuses = ne-eqb (c .number) 0 (λ e. NL.not-suc-le-zero (rw e at (ltb→lt 0 (c .number) (and-left (ltb 0 (c .number)) (numbered cs) t))))
+
+    by : (b : Bool) → firstOf (cs ++ ds) ≡ cond (isAccepted (firstOf cs)) (firstOf ds) (firstOf cs)
+        → cond b (refused (c .number) (c .place)) (firstOf (cs ++ ds))
+        ≡ cond (isAccepted (cond b (refused (c .number) (c .place)) (firstOf cs))) (firstOf ds) (cond b (refused (c .number) (c .place)) (firstOf cs))
+    by true e = rw refuses
+    by false e = e

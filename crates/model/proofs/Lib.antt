@@ -1,0 +1,2 @@
+-- Laws of answers, for the crates that have calls.
+pub mod Answer

@@ -1,0 +1,2 @@
+-- What the paper's calls have in common.
+pub mod Answer

@@ -1,0 +1,22 @@
+// What a job is made of. The numbers may have any content: the curve call refuses what lies outside the paper's limits.
+
+// The law of the number of claims: order k, divisor D, and the terms A_1..A_4 and B_1..B_4, of which those past k are zero.
+pub struct Law {
+    pub order: u64,
+    pub divisor: u64,
+    pub a: [i64; 4],
+    pub b: [i64; 4],
+}
+
+// The chance of no claims, in units: it lies from `low` to `high`.
+pub struct Start {
+    pub low: u64,
+    pub high: u64,
+}
+
+// A job but for its table: `last` is the last total, X.
+pub struct Job {
+    pub law: Law,
+    pub start: Start,
+    pub last: u64,
+}

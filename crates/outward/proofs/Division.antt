@@ -1,0 +1,47 @@
+-- The floor by the division with remainder of natural numbers, at each sign; the ceiling is the floor with the signs turned.
+use Prim.Native.Nat.{ℕ, zero, suc, _/_, _≤_, zero-le, suc-le-suc}
+use native.Mathlib.Nat.{mul-div-le, lt-mul-div-succ, div-le-self, zero-div}
+use lib.Dec.{le→leb}
+use lib.IntN.{ℤ, pos, negsuc, negℤ, natAbs, _+ℤ_, _*ℤ_}
+use lib.Signed.{_≤ℤ_, _<ℤ_, leZ-yes}
+use Rattle.algebra.proofs.Integer.{integers, signed, split-add, split-mul, split-neg}
+use Rattle.algebra.proofs.Ring.{mul-neg}
+use Rattle.algebra.proofs.Size.{size-neg}
+use Rattle.outward.specs.Division.{floorDiv, ceilDiv, FloorIs, CeilIs}
+
+pub floor-is : FloorIs
+unfolding floorDiv
+floor-is (pos a) n l = (omega (signed, mul-div-le a n), omega (signed, lt-mul-div-succ a l))
+floor-is (negsuc a) n l =
+    let product = split-mul (pos n) (negsuc (a / n)) in (
+      omega (signed, product, lt-mul-div-succ a l),
+      omega (signed, product, split-add (pos n *ℤ negsuc (a / n)) (pos n), mul-div-le a n),
+    )
+
+pub ceil-is : CeilIs
+unfolding ceilDiv
+ceil-is z n l = turned (floorDiv (negℤ z) n) (floor-is (negℤ z) n l)
+  where
+    turned : (q : ℤ) → ((pos n *ℤ q) ≤ℤ negℤ z) × (negℤ z <ℤ (pos n *ℤ q +ℤ pos n))
+        → (z ≤ℤ (pos n *ℤ negℤ q)) × ((pos n *ℤ negℤ q) <ℤ (z +ℤ pos n))
+    turned q (h, k) = rw (mul-neg integers (pos n) q) (
+      omega (signed, split-neg z, split-neg (pos n *ℤ q)),
+      omega (signed, split-neg z, split-neg (pos n *ℤ q), split-add (pos n *ℤ q) (pos n), split-add z (pos n)),
+    )
+
+-- neither is larger in size than what is divided
+pub floor-size : (z : ℤ) (n : ℕ) → natAbs (floorDiv z n) ≤ natAbs z
+unfolding floorDiv
+floor-size (pos a) n = div-le-self a n
+floor-size (negsuc a) n = suc-le-suc (div-le-self a n)
+
+pub ceil-size : (z : ℤ) (n : ℕ) → natAbs (ceilDiv z n) ≤ natAbs z
+unfolding ceilDiv
+ceil-size z n = rw (size-neg (floorDiv (negℤ z) n), ← size-neg z) (floor-size (negℤ z) n)
+
+-- the ceiling of what is zero or more is zero or more
+pub ceil-nonneg : (z : ℤ) (n : ℕ) → pos 0 ≤ℤ z → pos 0 ≤ℤ ceilDiv z n
+unfolding ceilDiv floorDiv
+ceil-nonneg (pos zero) n h = rw (zero-div n) h
+ceil-nonneg (pos (suc a)) n h = leZ-yes (le→leb 0 (suc (a / n)) zero-le)
+ceil-nonneg (negsuc a) n h = absurd (h .le)
