@@ -1,4 +1,5 @@
 -- Bottom up: what a file cites stands above it.
+pub mod Induction
 pub mod Semiring
 pub mod Sum
 pub mod Natural

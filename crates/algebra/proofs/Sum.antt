@@ -22,6 +22,14 @@ pub accumulate-next : {A : Type 0} (𝟘 : A) (plus : A → A → A) (n : ℕ) (
 unfolding accumulate
 accumulate-next 𝟘 plus n f = ap (λ (m : ℕ). accumulate 𝟘 plus m f) (sym (add-one n))
 
+-- a sum that starts at a, apart from a
+pub accumulate-from : {A : Type 0} (𝟘 : A) (plus : A → A → A) → ((a b c : A) → plus (plus a b) c ≡ plus a (plus b c)) → ((a : A) → plus a 𝟘 ≡ a)
+    → (a : A) (n : ℕ) (f : ℕ → A) → accumulate a plus n f ≡ plus a (accumulate 𝟘 plus n f)
+unfolding accumulate
+accumulate-from 𝟘 plus assoc unit a zero f = sym (unit a)
+accumulate-from 𝟘 plus assoc unit a (suc n) f =
+    ap (λ b. plus b (f n)) (accumulate-from 𝟘 plus assoc unit a n f) ∙ assoc a (accumulate 𝟘 plus n f) (f n)
+
 -- equal terms, equal sums; only the terms below n count
 pub accumulate-cong : {A : Type 0} (𝟘 : A) (plus : A → A → A) (n : ℕ) {f g : ℕ → A} → ((i : ℕ) → i < n → f i ≡ g i)
     → accumulate 𝟘 plus n f ≡ accumulate 𝟘 plus n g

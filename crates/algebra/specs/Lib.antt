@@ -1,4 +1,5 @@
 -- Algebra: what the other crates cite. Definitions and statements are here, their proofs stand in proofs/.
+pub mod Induction
 pub mod Semiring
 pub mod Ring
 pub mod Order

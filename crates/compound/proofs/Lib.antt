@@ -3,3 +3,5 @@ pub mod Call
 pub mod Curve
 pub mod Scaled
 pub mod Sizes
+pub mod Stored
+pub mod Tests

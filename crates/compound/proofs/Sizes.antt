@@ -75,8 +75,11 @@ module _ (sums : Entry) (f : Factor) (x : ℕ) (weights : List ℕ) (row : ℕ �
   )
 
   factor-size : (y : ℕ) → y < x → natAbs (lineFactor f weights y) ≤ getD weights y 0 * 1000000
-  factor-size y l = omega (arith, size-mul-le (f .slope *ℤ pos (y + 1) +ℤ f .constant) (pos (getD weights y 0)) 1000000 (getD weights y 0)
-      (mixed-size y l) (NL.le-refl _))
+  factor-size y l = omega (
+    arith,
+    size-mul-le (f .slope *ℤ pos (y + 1) +ℤ f .constant) (pos (getD weights y 0)) 1000000 (getD weights y 0)
+        (mixed-size y l) (NL.le-refl _),
+  )
 
   pub factor-room : (y : ℕ) → y < x → FactorRoom f (y + 1) (getD weights y 0)
   factor-room y l =

@@ -46,6 +46,9 @@ pub record Lent : Type 0 where
   pub bound : List ℤ
   pub work : List ℤ
 
+abbrev pub lentRows : List ℤ → List ℤ → List ℤ → List ℤ → Lent
+lentRows low high bound work = record { low = low; high = high; bound = bound; work = work }
+
 -- ---- "1, k; 2, D; 3, a term out of range, or past k and not zero (place: the smallest i); 4, start; 5, m; 6, W; 7, X; 8, a row below X+1
 -- places or the work row below 9 times (X+1)."
 -- n is not from least to most

@@ -3,7 +3,7 @@
 use mathlib.Core.List.{List}
 use Prim.Native.Nat.{ℕ, zero, suc, _+_, _-_, _*_, _≤_, _<_, _^_, min}
 use lib.IntN.{ℤ, pos, natAbs, _+ℤ_, _-ℤ_, _*ℤ_}
-use lib.ListN.{length, getD}
+use lib.ListN.{length, getD, set}
 use mir.Syntax.{w64}
 use mir.Val.{SFits}
 use Rattle.algebra.specs.Sum.{accumulate}
@@ -92,3 +92,40 @@ pub record TermRoom (sums : Entry) (f : Factor) (x : ℕ) (weights : List ℕ) (
   pub low-sum : natAbs (sums .low) ≤ 6000000000000000000
   pub high-sum : natAbs (sums .high) ≤ 6000000000000000000
   pub bound-sum : natAbs (sums .bound) ≤ 3000000000000000000
+
+-- ---- the rows in the lent rows
+-- where the columns of row j + 1 begin in the work row: low, high and bound, of as many places as there are totals
+abbrev pub columnsAt : ℕ → ℕ → ℕ
+columnsAt places j = 3 * j * places
+
+-- row 0 lies in the three rows, row j + 1 in its columns
+abbrev pub stored : ℕ → Lent → Rows
+stored places lent zero z = entryOf (lent .low) (lent .high) (lent .bound) z
+stored places lent (suc j) z = record {
+  low = getD (lent .work) (columnsAt places j + z) (pos 0);
+  high = getD (lent .work) (columnsAt places j + places + z) (pos 0);
+  bound = getD (lent .work) (columnsAt places j + places + places + z) (pos 0);
+}
+
+-- an entry put at total x of row j
+abbrev pub placed : ℕ → Lent → ℕ → ℕ → Entry → Lent
+placed places lent zero x e = record {
+  low = set (lent .low) x (e .low);
+  high = set (lent .high) x (e .high);
+  bound = set (lent .bound) x (e .bound);
+  work = lent .work;
+}
+placed places lent (suc j) x e = record {
+  low = lent .low;
+  high = lent .high;
+  bound = lent .bound;
+  work = set (set (set (lent .work) (columnsAt places j + x) (e .low)) (columnsAt places j + places + x) (e .high))
+      (columnsAt places j + places + places + x) (e .bound);
+}
+
+-- a row of the lent rows that a function may read or write at total x
+pub record Reachable (places x : ℕ) (lent : Lent) (j : ℕ) : Type 0 where
+  pub row-most : j ≤ 3
+  pub places-most : places ≤ 501
+  pub total-below : x < places
+  pub long : LongEnough places lent

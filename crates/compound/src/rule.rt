@@ -47,3 +47,24 @@ pub fn divide_sums(sums: Entry, divisor: u64) -> Entry
         bound: bound + 1,
     }
 }
+// Whether `z` lies outside -`limit` to `limit`.
+pub fn is_beyond(limit: i64, z: i64) -> bool
+    requires { ⌜ (pos 0 ≤ℤ limit) × (natAbs limit < 2 ^ 63) ⌝ }
+    ensures { λ r. ⌜ r ≡ beyond (natAbs limit) z ⌝ }
+{
+    z < 0 - limit || limit < z
+}
+
+// Whether an entry's low or high lies outside -2U to 2U.
+pub fn is_out_of_range(entry: Entry) -> bool
+    ensures { λ r. ⌜ r ≡ outOfRange entry ⌝ }
+{
+    is_beyond(2 * UNIT, entry.low) || is_beyond(2 * UNIT, entry.high)
+}
+
+// Whether an entry's bound is above U.
+pub fn is_bound_too_large(entry: Entry) -> bool
+    ensures { λ r. ⌜ r ≡ boundTooLarge entry ⌝ }
+{
+    UNIT < entry.bound
+}

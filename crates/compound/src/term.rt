@@ -1,7 +1,7 @@
 // One pass over the severities: the three sums of one term of the law, or of one convolution with the table.
 
-use super::rule::add_scaled;
 use super::Entry;
+use super::rule::add_scaled;
 ghost use mathlib.Core.Path.{_≡_};
 ghost use Prim.Native.Nat.{_+_, _-_, _*_, _<_, _≤_, _^_, min};
 ghost use lib.IntN.{pos, natAbs, _+ℤ_, _*ℤ_};

@@ -10,6 +10,15 @@ use Rattle.algebra.specs.Table.{every}
 use Rattle.algebra.proofs.Table.{and-left, and-right}
 use Rattle.model.specs.Answer.{Answer, Condition, accepted, refused, isAccepted, condition, firstOf}
 
+-- the first condition of a list, where it holds and where it does not
+pub first-holds : (c : Condition) (rest : List Condition) → c .holds ≡ true → firstOf (c ∷ rest) ≡ refused (c .number) (c .place)
+unfolding firstOf
+first-holds c rest e = rw e
+
+pub first-fails : (c : Condition) (rest : List Condition) → c .holds ≡ false → firstOf (c ∷ rest) ≡ firstOf rest
+unfolding firstOf
+first-fails c rest e = rw e
+
 -- the first condition of a list that refuses nothing
 pub passed : (t : Bool) (number place : ℕ) (rest : List Condition) → firstOf (condition t (suc number) place ∷ rest) ≡ accepted
     → (t ≡ false) × (firstOf rest ≡ accepted)

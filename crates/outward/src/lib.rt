@@ -16,7 +16,11 @@ pub fn floor_div(n: i64, d: u64) -> i64
     ensures { λ r. ⌜ r ≡ floorDiv n d ⌝ }
 {
     let divisor = d as i64;
-    if n < 0 { -1 - (-1 - n) / divisor } else { n / divisor }
+    if n < 0 {
+        -1 - (-1 - n) / divisor
+    } else {
+        n / divisor
+    }
 }
 
 // `n / d` rounded up, towards plus infinity.
@@ -25,7 +29,11 @@ pub fn ceil_div(n: i64, d: u64) -> i64
     ensures { λ r. ⌜ r ≡ ceilDiv n d ⌝ }
 {
     let divisor = d as i64;
-    if n <= 0 { n / divisor } else { (n - 1) / divisor + 1 }
+    if n <= 0 {
+        n / divisor
+    } else {
+        (n - 1) / divisor + 1
+    }
 }
 
 // The interval from `low` to `high` divided by `d`, each end rounded outward.

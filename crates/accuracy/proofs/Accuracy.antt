@@ -1,0 +1,28 @@
+-- The five statements: an accepted job is within the limits and shows row 0 of the curve, of which the other files speak.
+use mathlib.Core.Path.{sym, subst, subst₂}
+use Rattle.accuracy.specs.Accuracy.{amount, AcceptedDivisible, ShowsCurve, Encloses, GapWithinBound, SameBounds}
+use Rattle.accuracy.proofs.Enclosure.{Between, amount-enclosed}
+use Rattle.accuracy.proofs.Gap.{Narrow, narrow}
+use Rattle.accuracy.proofs.Bounds.{SameBound, bounds}
+use Rattle.accuracy.proofs.Call.{limits, shows}
+
+pub accepted-divisible : AcceptedDivisible
+accepted-divisible job weights lent ok =
+    let within = limits job weights lent ok in
+    record { divisor-pos = within .divisor-least; total-pos = within .weights-least }
+
+pub shows-curve : ShowsCurve
+shows-curve = shows
+
+pub encloses : Encloses
+encloses job weights lent ok h x l p s t = subst (λ e. Between e (amount job weights h p x)) (sym (shows job weights lent ok x l))
+    (amount-enclosed job weights h p (s, t) (limits job weights lent ok .order-least) x)
+
+pub gap-within-bound : GapWithinBound
+gap-within-bound job weights lent ok x l = subst Narrow (sym (shows job weights lent ok x l))
+    (narrow job weights (accepted-divisible job weights lent ok) x 0 (limits job weights lent ok .order-least))
+
+pub same-bounds : SameBounds
+same-bounds job job′ weights lent lent′ ok ok′ same-law same-gap x l l′ =
+    subst₂ SameBound (sym (shows job weights lent ok x l)) (sym (shows job′ weights lent′ ok′ x l′))
+    (bounds job job′ weights same-gap (accepted-divisible job weights lent ok) same-law x 0 (limits job weights lent ok .order-least))

@@ -1,0 +1,60 @@
+-- Two jobs alike in law, table and gap have the same bounds: the rule for a bound names no low and no high, so the entries of the one job
+-- stand beside those of the other with equal bounds.
+use mathlib.Core.Path.{_≡_, refl, sym, ap, ap₂, subst}
+use mathlib.Core.List.{List}
+use Prim.Native.Nat.{ℕ, zero, suc, _<_}
+use lib.IntN.{ℤ, pos, natAbs, _+ℤ_, _*ℤ_}
+use Rattle.outward.specs.Division.{ceilDiv}
+use Rattle.model.specs.declared.Law.{Law}
+use Rattle.model.specs.declared.Job.{Job}
+use Rattle.compound.specs.declared.Entry.{Entry}
+use Rattle.compound.specs.Entry.{none, plus, scaled, allowance, rounded}
+use Rattle.compound.specs.Curve.{factor, firstEntry, sumsZero, sumsNext, entryAt, curveRows}
+use Rattle.compound.proofs.Curve.{curve-rule}
+use Rattle.accuracy.specs.Accuracy.{Divisible, gap}
+use Rattle.accuracy.proofs.Kept.{Kept, Follows, all-kept}
+
+abbrev pub SameBound : Entry → Entry → Type 0
+SameBound e f = e .bound ≡ f .bound
+
+same-scaled : (z : ℤ) (e f : Entry) → SameBound e f → SameBound (scaled z e) (scaled z f)
+unfolding scaled
+same-scaled z e f p = ap (λ (b : ℤ). pos (natAbs z) *ℤ b) p
+
+same-rounded : (d : ℕ) (e f : Entry) → SameBound e f → SameBound (rounded d e) (rounded d f)
+unfolding rounded
+same-rounded d e f p = ap (λ (b : ℤ). ceilDiv b d +ℤ allowance d) p
+
+abbrev same-bound : Kept Entry SameBound
+same-bound = record {
+  nought = none;
+  add = plus;
+  times = scaled;
+  Divided = λ d s e. e ≡ rounded d s;
+  by-none = refl;
+  by-plus = λ _ _ _ _ p q. ap₂ _+ℤ_ p q;
+  by-scaled = same-scaled;
+  by-rounded = λ d e s f _ p q. subst (SameBound (rounded d e)) (sym q) (same-rounded d e s p);
+}
+
+module _ (job job′ : Job) (weights : List ℕ) (same-gap : gap (job .start) ≡ gap (job′ .start)) where
+  -- the second job under any law: first under that of the first job, which is then exchanged for its own
+  abbrev second : Law → Job
+  second law = record { law = law; start = job′ .start; last = job′ .last }
+
+  same-first : (j : ℕ) → SameBound (firstEntry job weights j) (firstEntry job′ weights j)
+  same-first zero = same-gap
+  same-first (suc j) = refl
+
+  second-follows : Follows same-bound job weights (curveRows (second (job .law)) weights)
+  unfolding entryAt sumsZero sumsNext factor
+  second-follows = record {
+    first = λ j h. subst (SameBound (firstEntry job weights j)) (sym (curve-rule (second (job .law)) weights j 0 h)) (same-first j);
+    row-zero = λ x h. curve-rule (second (job .law)) weights 0 (suc x) h;
+    row-next = λ j x h. curve-rule (second (job .law)) weights (suc j) (suc x) h;
+  }
+
+  pub bounds : Divisible job weights → job .law ≡ job′ .law → (x j : ℕ) → j < job .law .order
+      → SameBound (curveRows job weights j x) (curveRows job′ weights j x)
+  bounds h same-law x j l = subst (λ law. SameBound (curveRows job weights j x) (curveRows (second law) weights j x)) same-law
+      (all-kept same-bound job weights h (curveRows (second (job .law)) weights) second-follows x j l)

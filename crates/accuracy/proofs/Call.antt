@@ -1,0 +1,64 @@
+-- What an acceptance says: every check was passed, no entry has a fault, so the lent rows hold row 0 of the curve.
+use mathlib.Core.Path.{_≡_, refl, sym, _∙_, ap}
+use mathlib.Core.Bool.{Bool, true, false, cond}
+use mathlib.Core.List.{List, _++_}
+use Prim.Native.Nat.{ℕ, _+_, _≤_}
+use native.Mathlib.Omega.{arith}
+use lib.Dec.{T}
+use lib.IntN.{ℤ, pos}
+use lib.ListN.{length, getD, drop, List·getD-append}
+use Rattle.algebra.specs.Slice.{listed, written}
+use Rattle.algebra.proofs.Slice.{listed-length, listed-at}
+use Rattle.model.specs.declared.Job.{Job}
+use Rattle.model.specs.Answer.{Condition, accepted, isAccepted, firstOf}
+use Rattle.model.proofs.Answer.{numbered, first-append}
+use Rattle.compound.specs.declared.Entry.{Entry}
+use Rattle.compound.specs.Curve.{curveRows}
+use Rattle.compound.specs.Call.{Lent, checks, faults, curveAnswer, rowAfter, ran, curveLent}
+use Rattle.compound.specs.Room.{Limits, LongEnough}
+use Rattle.compound.proofs.Call.{checked-limits}
+use Rattle.accuracy.specs.Accuracy.{Accepted, shown}
+
+-- the first of two lists that refuse nothing one after the other
+first-passed : (cs ds : List Condition) → T (numbered cs) → firstOf (cs ++ ds) ≡ accepted → isAccepted (firstOf cs) ≡ true
+first-passed cs ds t e = by (isAccepted (firstOf cs)) refl (sym (first-append cs ds t) ∙ e)
+  where
+    by : (b : Bool) → isAccepted (firstOf cs) ≡ b → cond b (firstOf ds) (firstOf cs) ≡ accepted → isAccepted (firstOf cs) ≡ true
+    by true p q = p
+    by false p q = ap isAccepted q
+
+module _ (job : Job) (weights : List ℕ) (lent : Lent) (ok : Accepted job weights lent) where
+  passed : Limits job weights × LongEnough (job .last + 1) lent × (firstOf (faults job weights) ≡ accepted)
+  unfolding curveAnswer
+  passed = checked-limits job weights lent (faults job weights) ok
+
+  pub limits : Limits job weights
+  limits = passed .0
+
+  lent-ran : curveLent job weights lent ≡ ran job weights lent
+  unfolding curveAnswer curveLent
+  lent-ran = ap (λ (t : Bool). cond t (ran job weights lent) lent) (first-passed (checks job weights lent) (faults job weights) tt ok)
+
+  row-listed : (column : Entry → ℤ) → rowAfter column job weights ≡ listed (λ x. column (curveRows job weights 0 x)) (job .last + 1)
+  unfolding rowAfter
+  row-listed column = rw (passed .2)
+
+  row-at : (column : Entry → ℤ) (row : List ℤ) (x : ℕ) → x ≤ job .last
+      → getD (written (rowAfter column job weights) row) x (pos 0) ≡ column (curveRows job weights 0 x)
+  row-at column row x l =
+      ap (λ (front : List ℤ). getD (written front row) x (pos 0)) (row-listed column)
+      ∙ List·getD-append entries (drop (length entries) row) (pos 0) x (omega (arith, listed-length entry (job .last + 1)))
+      ∙ listed-at entry (job .last + 1) x (pos 0) (omega arith)
+    where
+      entry : ℕ → ℤ
+      entry x = column (curveRows job weights 0 x)
+
+      entries : List ℤ
+      entries = listed entry (job .last + 1)
+
+  pub shows : (x : ℕ) → x ≤ job .last → shown job weights lent x ≡ curveRows job weights 0 x
+  shows x l = rw lent-ran (λ i. record {
+    low = row-at (λ e. e .low) (lent .low) x l i;
+    high = row-at (λ e. e .high) (lent .high) x l i;
+    bound = row-at (λ e. e .bound) (lent .bound) x l i;
+  })

@@ -1,0 +1,136 @@
+-- Every entry of the curve's rows encloses the exact entry. The exact rows follow the same recursion over the rational numbers, and there
+-- sums, factors and outward divisions keep a number between two ends.
+use mathlib.Core.Path.{_≡_, sym, _∙_, ap}
+use mathlib.Core.List.{List}
+use Prim.Native.Nat.{ℕ, zero, suc, _≤_, _<_}
+use native.Mathlib.Nat as NL
+use lib.IntN.{ℤ, pos, negsuc, _*ℤ_}
+use Rattle.algebra.specs.Fraction.{Fraction, whole, _≼_}
+use Rattle.algebra.specs.Order.{OrderedRing}
+use Rattle.algebra.specs.Ring.{int}
+use Rattle.algebra.specs.Semiring.{Semiring, nat}
+use Rattle.algebra.proofs.Integer.{signed}
+use Rattle.algebra.proofs.Ring.{int-pos, int-add, int-mul}
+use Rattle.algebra.proofs.Order.{add-mono, mul-mono, mul-turn, mul-cancel-le, int-mono}
+use Rattle.algebra.proofs.Value.{order, ℚ, value, value-le, le-of-value, value-int}
+use Rattle.exact.specs.Frequency.{Frequency}
+use Rattle.exact.specs.Severity.{Severity}
+use Rattle.exact.specs.Recursion.{factor as exactFactor}
+use Rattle.exact.proofs.Amount.{valueRow, value-amount}
+use Rattle.exact.proofs.Recursion.{recursion-value, convolution-value, first-value, first-further}
+use Rattle.outward.proofs.Division.{floor-is, ceil-is}
+use Rattle.model.specs.declared.Job.{Job}
+use Rattle.compound.specs.declared.Entry.{Entry}
+use Rattle.compound.specs.Entry.{none, plus, scaled, rounded}
+use Rattle.compound.specs.Curve.{factor, firstEntry, curveRows}
+use Rattle.accuracy.specs.Accuracy.{Divisible, frequency, severity, amount}
+use Rattle.accuracy.proofs.Kept.{Kept, Follows, all-kept}
+open OrderedRing order using (_⊑_)
+open Semiring ℚ using (carrier as A, 𝟘, _⊹_, _·_)
+
+infix 4 _⊑_
+infixl 6 _⊹_
+infixl 7 _·_
+-- the integer z as a rational number
+abbrev integer : ℤ → A
+integer = int (order .ring)
+
+-- v lies from the low to the high of e
+record Within (e : Entry) (v : A) : Type 0 where
+  below : integer (e .low) ⊑ v
+  above : v ⊑ integer (e .high)
+
+within-none : Within none 𝟘
+unfolding int nat
+within-none = record { below = order .le-refl 𝟘; above = order .le-refl 𝟘 }
+
+within-plus : (e f : Entry) (u v : A) → Within e u → Within f v → Within (plus e f) (u ⊹ v)
+within-plus e f u v p q = record {
+  below = rw int-add (add-mono order (p .below) (q .below));
+  above = rw int-add (add-mono order (p .above) (q .above));
+}
+
+-- ---- a factor, which turns the ends where it is negative
+nonneg : (n : ℕ) → 𝟘 ⊑ integer (pos n)
+unfolding int nat
+nonneg n = int-mono order {a = pos 0} {b = pos n} (omega signed)
+
+nonpos : (n : ℕ) → integer (negsuc n) ⊑ 𝟘
+unfolding int nat
+nonpos n = int-mono order {a = negsuc n} {b = pos 0} (omega signed)
+
+within-scaled : (z : ℤ) (e : Entry) (v : A) → Within e v → Within (scaled z e) (integer z · v)
+unfolding scaled
+within-scaled (pos n) e v w = record {
+  below = rw int-mul (mul-mono order (integer (pos n)) (nonneg n) (w .below));
+  above = rw int-mul (mul-mono order (integer (pos n)) (nonneg n) (w .above));
+}
+within-scaled (negsuc n) e v w = record {
+  below = rw int-mul (mul-turn order (integer (negsuc n)) (nonpos n) (w .above));
+  above = rw int-mul (mul-turn order (integer (negsuc n)) (nonpos n) (w .below));
+}
+
+-- ---- a division
+-- a factor of at least 1 cancels
+cancel : (d : ℕ) (a b : A) → 1 ≤ d → nat ℚ d · a ⊑ nat ℚ d · b → a ⊑ b
+cancel zero a b l h = absurd (NL.not-suc-le-zero l)
+cancel (suc d) a b l h = mul-cancel-le order d h
+
+product : (d : ℕ) (z : ℤ) → nat ℚ d · integer z ≡ integer (pos d *ℤ z)
+product d z = sym (int-mul (order .ring) (pos d) z ∙ ap (λ (v : A). v · integer z) (int-pos (order .ring) d))
+
+within-rounded : (d : ℕ) (e : Entry) (s v : A) → 1 ≤ d → Within e s → nat ℚ d · v ≡ s → Within (rounded d e) v
+unfolding rounded
+within-rounded d e s v l w q = record {
+  below = cancel d _ _ l (rw (q, product) (order .le-trans (int-mono order (floor-is (e .low) d l .0)) (w .below)));
+  above = cancel d _ _ l (rw (q, product) (order .le-trans (w .above) (int-mono order (ceil-is (e .high) d l .0))));
+}
+
+abbrev enclosing : Kept A Within
+enclosing = record {
+  nought = 𝟘;
+  add = _⊹_;
+  times = λ z v. integer z · v;
+  Divided = λ d s v. nat ℚ d · v ≡ s;
+  by-none = within-none;
+  by-plus = within-plus;
+  by-scaled = within-scaled;
+  by-rounded = within-rounded;
+}
+
+-- ---- from fractions to rational numbers and back
+abbrev pub Between : Entry → Fraction → Type 0
+Between e q = (whole (e .low) ≼ q) × (q ≼ whole (e .high))
+
+within-value : (e : Entry) (q : Fraction) → Between e q → Within e (value q)
+within-value e q (s, t) = record { below = rw (← value-int) (value-le s); above = rw (← value-int) (value-le t) }
+
+of-within : (e : Entry) (q : Fraction) → Within e (value q) → Between e q
+of-within e q w = (le-of-value (rw value-int (w .below)), le-of-value (rw value-int (w .above)))
+
+-- ---- all entries
+module _ (job : Job) (weights : List ℕ) (h : Divisible job weights) (p : Fraction) (start : Between (firstEntry job weights 0) p) where
+  abbrev law : Frequency
+  law = frequency (job .law) (h .divisor-pos)
+
+  abbrev table : Severity
+  table = severity weights (h .total-pos)
+
+  first-within : (j : ℕ) → Within (firstEntry job weights j) (valueRow law table p j 0)
+  first-within zero = rw first-value (within-value (firstEntry job weights 0) p start)
+  first-within (suc j) = rw first-further within-none
+
+  exact-follows : Follows enclosing job weights (valueRow law table p)
+  unfolding factor exactFactor int
+  exact-follows = record {
+    first = λ j _. first-within j;
+    row-zero = λ x _. recursion-value law table p (suc x);
+    row-next = λ j x _. convolution-value law table p j (suc x);
+  }
+
+  -- the rows 0 to k - 1
+  enclosed : (x j : ℕ) → j < job .law .order → Within (curveRows job weights j x) (valueRow law table p j x)
+  enclosed = all-kept enclosing job weights h (valueRow law table p) exact-follows
+
+  pub amount-enclosed : 0 < job .law .order → (x : ℕ) → Between (curveRows job weights 0 x) (amount job weights h p x)
+  amount-enclosed l x = of-within (curveRows job weights 0 x) (amount job weights h p x) (rw value-amount (enclosed x 0 l))

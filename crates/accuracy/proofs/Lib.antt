@@ -1,0 +1,7 @@
+-- Bottom up: what a file cites stands above it.
+pub mod Kept
+pub mod Enclosure
+pub mod Gap
+pub mod Bounds
+pub mod Call
+pub mod Accuracy

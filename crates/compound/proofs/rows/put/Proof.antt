@@ -1,0 +1,50 @@
+-- Row 0 is put where it is lent, a further row into its columns, which lie in the work row.
+use borrow.Author.Needs.{needs}
+use mathlib.Core.Path.{refl, _∙_}
+use Prim.Native.Nat.{_-_}
+use native.Mathlib.Omega.{arith}
+use Rattle.compound.specs.Call.{lentRows}
+use Rattle.compound.proofs.Stored.{columns-in, same-lent, placed-first, placed-further}
+use Rattle.compound.proofs.rows.put.Statement.{statement}
+use Rattle.compound.proofs.rows.put.Tie as tie
+
+returns : tie.Need-returns
+returns c =
+    let stored = c .before .before .before .put-first .ensures in
+    let first = c .before .before .before .before .before .before .before .if1 .taken in
+    let a = c .before .before .before .before .before .before .before .before .args in
+    same-lent (stored .0) (stored .1 .0) (stored .1 .1) refl
+    ∙ placed-first (a .places) (lentRows (a .low .now) (a .high .now) (a .bound .now) (a .work .now)) (a .row) (a .x) (a .entry) first
+
+put-further-requires : tie.Need-put-further-requires
+put-further-requires c κs =
+    let s = c .before .before .before in
+    let reach = s .pre in (
+      search needs,
+      omega (
+        arith,
+        c .before .columns-at .ensures,
+        columns-in (s .args .places) (s .args .row - 1) (omega (arith, reach .row-most)),
+        reach .long .work-long,
+      ),
+    )
+
+returns-2 : tie.Need-returns-2
+returns-2 c =
+    let d = c .before .before .before in
+    same-lent refl refl refl (c .before .put-further .ensures)
+    ∙ placed-further _ _ _ _ _ _ (d .before .if1 .left) (d .columns-at .ensures)
+
+pub put-spec : {M : Type 1} → statement M
+put-spec =
+    tie.close
+    (tie.spec
+    (λ c κs. search needs)
+    (λ c. search needs)
+    (λ c. search needs)
+    (λ c. search needs)
+    returns
+    (λ c κs. search needs)
+    put-further-requires
+    (λ c. search needs)
+    returns-2)

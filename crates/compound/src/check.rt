@@ -1,0 +1,140 @@
+// Refusals 1 to 8, in the paper's order: what is known before anything is written.
+
+use super::CurveAnswer;
+use super::Reason;
+use super::rule::is_beyond;
+use model::Job;
+use model::Law;
+use model::Start;
+ghost use mathlib.Core.Path.{_≡_};
+ghost use mathlib.Core.Bool.{_||_};
+ghost use Prim.Native.Nat.{_+_, _*_, _≤_, min};
+ghost use lib.IntN.{pos, natAbs};
+ghost use lib.ListN.{length};
+ghost use Rattle.algebra.specs.Smallest.{smallest};
+ghost use Rattle.exact.specs.Severity.{totalWeight};
+ghost use Rattle.model.specs.Answer.{firstOf};
+ghost use Rattle.compound.specs.Entry.{beyond};
+ghost use Rattle.compound.specs.Call.{outside, termLimit, wrongTerm, wrongStart, tooShort, paper, checks, lentRows};
+
+// The largest sum of weights that is told apart: one more than a table may have.
+const WEIGHT_CAP: u64 = 1001;
+
+fn is_outside(least: u64, most: u64, n: u64) -> bool
+    ensures { λ r. ⌜ r ≡ outside least most n ⌝ }
+{
+    n < least || most < n
+}
+
+// The size that the numbers of term `i` + 1 may have: a term past the order is zero.
+fn term_limit(order: u64, i: usize) -> i64
+    ensures { λ r. ⌜ r ≡ pos (termLimit order i) ⌝ }
+{
+    if (i as u64) < order { 1000 } else { 0 }
+}
+
+fn is_wrong_term(order: u64, i: usize, a: i64, b: i64) -> bool
+    ensures { λ r. ⌜ r ≡ (beyond (termLimit order i) a || beyond (termLimit order i) b) ⌝ }
+{
+    let limit = term_limit(order, i);
+    is_beyond(limit, a) || is_beyond(limit, b)
+}
+
+// The first term that is wrong, from 0, and 4 where none is.
+fn first_wrong_term(law: Law) -> usize
+    ensures { λ r. ⌜ r ≡ smallest (wrongTerm law) 4 ⌝ }
+{
+    let order = law.order;
+    let a = law.a;
+    let b = law.b;
+    for i in 0..4 {
+        if is_wrong_term(order, i, a[i], b[i]) {
+            return i;
+        }
+    }
+    4
+}
+
+fn is_wrong_start(start: Start) -> bool
+    ensures { λ r. ⌜ r ≡ wrongStart start ⌝ }
+{
+    start.high < start.low || is_outside(1, 1_000_000_000, start.high)
+}
+
+fn capped_sum(total: u64, weight: u64) -> u64
+    requires { ⌜ total ≤ 1001 ⌝ }
+    ensures { λ r. ⌜ r ≡ min (total + weight) 1001 ⌝ }
+{
+    if WEIGHT_CAP - total < weight {
+        WEIGHT_CAP
+    } else {
+        total + weight
+    }
+}
+
+// The sum of the weights, as far as the cap: it does not overflow whatever the weights are.
+pub fn total_weight(weights: &[u64]) -> u64
+    ensures { λ r. ⌜ r ≡ min (totalWeight (now (weights .entry))) 1001 ⌝ }
+{
+    let mut total = 0;
+    for i in 0..weights.len() {
+        total = capped_sum(total, weights[i]);
+    }
+    total
+}
+
+fn is_too_short(places: usize, low: &[i64], high: &[i64], bound: &[i64], work: &[i64]) -> bool
+    requires { ⌜ places ≤ 501 ⌝ }
+    ensures { λ r. ⌜ r ≡ tooShort places (lentRows (now (low .entry)) (now (high .entry)) (now (bound .entry)) (now (work .entry))) ⌝ }
+{
+    if low.len() < places {
+        return true;
+    }
+    if high.len() < places {
+        return true;
+    }
+    if bound.len() < places {
+        return true;
+    }
+    work.len() < 9 * places
+}
+
+// The first condition of the list that holds.
+pub fn check(
+    job: Job,
+    weights: &[u64],
+    low: &[i64],
+    high: &[i64],
+    bound: &[i64],
+    work: &[i64],
+) -> CurveAnswer
+    ensures { λ r. ⌜ paper r ≡ firstOf (checks job (now (weights .entry)) (lentRows (now (low .entry)) (now (high .entry)) (now (bound .entry)) (now (work .entry)))) ⌝ }
+{
+    if is_outside(1, 4, job.law.order) {
+        return CurveAnswer::Refused(Reason::Order, 0);
+    }
+    if is_outside(1, 1000, job.law.divisor) {
+        return CurveAnswer::Refused(Reason::Divisor, 0);
+    }
+    let term = first_wrong_term(job.law);
+    if term < 4 {
+        return CurveAnswer::Refused(Reason::Term, term + 1);
+    }
+    if is_wrong_start(job.start) {
+        return CurveAnswer::Refused(Reason::Start, 0);
+    }
+    if is_outside(1, 500, weights.len() as u64) {
+        return CurveAnswer::Refused(Reason::Severities, 0);
+    }
+    if is_outside(1, 1000, total_weight(weights)) {
+        return CurveAnswer::Refused(Reason::Weights, 0);
+    }
+    if 500 < job.last {
+        return CurveAnswer::Refused(Reason::Last, 0);
+    }
+    let places = job.last as usize + 1;
+    if is_too_short(places, low, high, bound, work) {
+        return CurveAnswer::Refused(Reason::Room, 0);
+    }
+    CurveAnswer::Accepted
+}

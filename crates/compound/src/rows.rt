@@ -1,0 +1,110 @@
+// Where the rows lie: row 0 in the three lent rows, a further row in three columns of the work row.
+
+use super::Entry;
+use super::term::Factor;
+use super::term::add_term;
+ghost use mathlib.Core.Path.{_≡_};
+ghost use Prim.Native.Nat.{_+_, _-_, _≤_, _<_};
+ghost use lib.ListN.{length, set};
+ghost use Rattle.compound.specs.Call.{lentRows};
+ghost use Rattle.compound.specs.Room.{Reachable, TermRoom, lineFactor, termSums, columnsAt, stored, placed};
+
+// Low, high and bound.
+const COLUMNS: usize = 3;
+
+// Where the columns of a further row begin, of `places` places each.
+fn columns_at(places: usize, row: usize) -> usize
+    requires { ⌜ (1 ≤ row) × (row ≤ 3) × (places ≤ 501) ⌝ }
+    ensures { λ r. ⌜ r ≡ columnsAt places (row - 1) ⌝ }
+{
+    COLUMNS * (row - 1) * places
+}
+
+// The sums with those of one term added, which reads row `row`.
+pub fn add_row(
+    sums: Entry,
+    factor: Factor,
+    x: usize,
+    weights: &[u64],
+    low: &[i64],
+    high: &[i64],
+    bound: &[i64],
+    work: &[i64],
+    places: usize,
+    row: usize,
+) -> Entry
+    requires { ⌜ Reachable places x (lentRows (now low) (now high) (now bound) (now work)) row ⌝ }
+    requires { ⌜ TermRoom sums factor x (now weights) (stored places (lentRows (now low) (now high) (now bound) (now work)) row) ⌝ }
+    ensures { λ r. ⌜ r ≡ termSums sums (lineFactor factor (now (weights .entry))) x (now (weights .entry))
+        (stored places (lentRows (now (low .entry)) (now (high .entry)) (now (bound .entry)) (now (work .entry))) row) ⌝ }
+{
+    if row == 0 {
+        return add_term(sums, factor, x, weights, low, high, bound);
+    }
+    let low_at = columns_at(places, row);
+    let high_at = low_at + places;
+    let bound_at = high_at + places;
+    let end = bound_at + places;
+    add_term(
+        sums,
+        factor,
+        x,
+        weights,
+        &work[low_at..high_at],
+        &work[high_at..bound_at],
+        &work[bound_at..end],
+    )
+}
+
+// An entry put at total `x` of row 0.
+fn put_first(low: &mut [i64], high: &mut [i64], bound: &mut [i64], x: usize, entry: Entry)
+    requires { ⌜ (x < length (now low)) × (x < length (now high)) × (x < length (now bound)) ⌝ }
+    ensures low { λ r. ⌜ now (low .exit) ≡ set (now (low .entry)) x (entry .low) ⌝ }
+    ensures high { λ r. ⌜ now (high .exit) ≡ set (now (high .entry)) x (entry .high) ⌝ }
+    ensures bound { λ r. ⌜ now (bound .exit) ≡ set (now (bound .entry)) x (entry .bound) ⌝ }
+{
+    let l = entry.low;
+    low[x] = l;
+    let h = entry.high;
+    high[x] = h;
+    let b = entry.bound;
+    bound[x] = b;
+}
+
+// An entry put at total `x` of the columns that begin at `at`.
+fn put_further(work: &mut [i64], at: usize, places: usize, x: usize, entry: Entry)
+    requires { ⌜ (x < places) × (at + places + places + places ≤ length (now work)) ⌝ }
+    ensures { λ r. ⌜ now (work .exit) ≡ set (set (set (now (work .entry)) (at + x) (entry .low)) (at + places + x) (entry .high)) (at + places + places + x) (entry .bound) ⌝ }
+{
+    let low_at = at + x;
+    let high_at = at + places + x;
+    let bound_at = at + places + places + x;
+    let l = entry.low;
+    work[low_at] = l;
+    let h = entry.high;
+    work[high_at] = h;
+    let b = entry.bound;
+    work[bound_at] = b;
+}
+
+// An entry put at total `x` of row `row`.
+pub fn put(
+    low: &mut [i64],
+    high: &mut [i64],
+    bound: &mut [i64],
+    work: &mut [i64],
+    places: usize,
+    row: usize,
+    x: usize,
+    entry: Entry,
+)
+    requires { ⌜ Reachable places x (lentRows (now low) (now high) (now bound) (now work)) row ⌝ }
+    ensures { λ r. ⌜ lentRows (now (low .exit)) (now (high .exit)) (now (bound .exit)) (now (work .exit)) ≡ placed places (lentRows (now (low .entry)) (now (high .entry)) (now (bound .entry)) (now (work .entry))) row x entry ⌝ }
+{
+    if row == 0 {
+        put_first(low, high, bound, x, entry);
+        return;
+    }
+    let at = columns_at(places, row);
+    put_further(work, at, places, x, entry);
+}
