@@ -9,20 +9,20 @@ use Rattle.accuracy.proofs.Call.{limits, shows}
 pub accepted-divisible : AcceptedDivisible
 accepted-divisible job weights lent ok =
     let within = limits job weights lent ok in
-    record { divisor-pos = within .divisor-least; total-pos = within .weights-least }
+    record { divisor-pos = within .law .divisor-least; total-pos = within .table .weights-least }
 
 pub shows-curve : ShowsCurve
 shows-curve = shows
 
 pub encloses : Encloses
 encloses job weights lent ok h x l p s t = subst (λ e. Between e (amount job weights h p x)) (sym (shows job weights lent ok x l))
-    (amount-enclosed job weights h p (s, t) (limits job weights lent ok .order-least) x)
+    (amount-enclosed job weights h p (s, t) (limits job weights lent ok .law .order-least) x)
 
 pub gap-within-bound : GapWithinBound
 gap-within-bound job weights lent ok x l = subst Narrow (sym (shows job weights lent ok x l))
-    (narrow job weights (accepted-divisible job weights lent ok) x 0 (limits job weights lent ok .order-least))
+    (narrow job weights (accepted-divisible job weights lent ok) x 0 (limits job weights lent ok .law .order-least))
 
 pub same-bounds : SameBounds
 same-bounds job job′ weights lent lent′ ok ok′ same-law same-gap x l l′ =
     subst₂ SameBound (sym (shows job weights lent ok x l)) (sym (shows job′ weights lent′ ok′ x l′))
-    (bounds job job′ weights same-gap (accepted-divisible job weights lent ok) same-law x 0 (limits job weights lent ok .order-least))
+    (bounds job job′ weights same-gap (accepted-divisible job weights lent ok) same-law x 0 (limits job weights lent ok .law .order-least))

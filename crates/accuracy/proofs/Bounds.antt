@@ -42,14 +42,14 @@ module _ (job job′ : Job) (weights : List ℕ) (same-gap : gap (job .start) �
   abbrev second : Law → Job
   second law = record { law = law; start = job′ .start; last = job′ .last }
 
-  same-first : (j : ℕ) → SameBound (firstEntry job weights j) (firstEntry job′ weights j)
+  same-first : (j : ℕ) → SameBound (firstEntry (job .start) j) (firstEntry (job′ .start) j)
   same-first zero = same-gap
   same-first (suc j) = refl
 
   second-follows : Follows same-bound job weights (curveRows (second (job .law)) weights)
   unfolding entryAt sumsZero sumsNext factor
   second-follows = record {
-    first = λ j h. subst (SameBound (firstEntry job weights j)) (sym (curve-rule (second (job .law)) weights j 0 h)) (same-first j);
+    first = λ j h. subst (SameBound (firstEntry (job .start) j)) (sym (curve-rule (second (job .law)) weights j 0 h)) (same-first j);
     row-zero = λ x h. curve-rule (second (job .law)) weights 0 (suc x) h;
     row-next = λ j x h. curve-rule (second (job .law)) weights (suc j) (suc x) h;
   }

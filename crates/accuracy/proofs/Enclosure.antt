@@ -109,15 +109,15 @@ of-within : (e : Entry) (q : Fraction) → Within e (value q) → Between e q
 of-within e q w = (le-of-value (rw value-int (w .below)), le-of-value (rw value-int (w .above)))
 
 -- ---- all entries
-module _ (job : Job) (weights : List ℕ) (h : Divisible job weights) (p : Fraction) (start : Between (firstEntry job weights 0) p) where
+module _ (job : Job) (weights : List ℕ) (h : Divisible job weights) (p : Fraction) (start : Between (firstEntry (job .start) 0) p) where
   abbrev law : Frequency
   law = frequency (job .law) (h .divisor-pos)
 
   abbrev table : Severity
   table = severity weights (h .total-pos)
 
-  first-within : (j : ℕ) → Within (firstEntry job weights j) (valueRow law table p j 0)
-  first-within zero = rw first-value (within-value (firstEntry job weights 0) p start)
+  first-within : (j : ℕ) → Within (firstEntry (job .start) j) (valueRow law table p j 0)
+  first-within zero = rw first-value (within-value (firstEntry (job .start) 0) p start)
   first-within (suc j) = rw first-further within-none
 
   exact-follows : Follows enclosing job weights (valueRow law table p)

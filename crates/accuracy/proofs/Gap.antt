@@ -97,7 +97,7 @@ narrowing = record {
 }
 
 module _ (job : Job) (weights : List ℕ) where
-  narrow-first : (j : ℕ) → Narrow (firstEntry job weights j)
+  narrow-first : (j : ℕ) → Narrow (firstEntry (job .start) j)
   narrow-first zero = ≤ℤ-refl (pos (job .start .high) -ℤ pos (job .start .low))
   narrow-first (suc j) = ≤ℤ-refl (pos 0)
 

@@ -41,13 +41,13 @@ module _ {B : Type 0} {Rel : Entry → B → Type 0} (kept : Kept B Rel) where
   module _ (job : Job) (weights : List ℕ) where
     -- rows of the other numbers follow the curve's rule
     pub record Follows (rows : ℕ → ℕ → B) : Type 0 where
-      pub first : (j : ℕ) → j < job .law .order → Rel (firstEntry job weights j) (rows j 0)
-      pub row-zero : (x : ℕ) → 0 < job .law .order → kept .Divided (divisorZero job weights (suc x))
-          (together (job .law .order) (λ i. together (severities job weights (suc x)) (λ y.
-          kept .times (factor job weights (suc x) i y) (rows i (suc x - suc y)))))
+      pub first : (j : ℕ) → j < job .law .order → Rel (firstEntry (job .start) j) (rows j 0)
+      pub row-zero : (x : ℕ) → 0 < job .law .order → kept .Divided (divisorZero (job .law) weights (suc x))
+          (together (job .law .order) (λ i. together (severities weights (suc x)) (λ y.
+          kept .times (factor (job .law) weights (suc x) i y) (rows i (suc x - suc y)))))
           (rows 0 (suc x))
       pub row-next : (j x : ℕ) → suc j < job .law .order → kept .Divided (totalWeight weights)
-          (together (severities job weights (suc x)) (λ y. kept .times (pos (getD weights y 0)) (rows j (suc x - suc y))))
+          (together (severities weights (suc x)) (λ y. kept .times (pos (getD weights y 0)) (rows j (suc x - suc y))))
           (rows (suc j) (suc x))
 
     module _ (positive : Divisible job weights) (rows : ℕ → ℕ → B) (rule : Follows rows) where
@@ -61,11 +61,11 @@ module _ {B : Type 0} {Rel : Entry → B → Type 0} (kept : Kept B Rel) where
       entry-kept j zero h before = rule .first j h
       entry-kept zero (suc x) h before = kept .by-rounded _ _ _ _
           (NL.mul-pos (NL.mul-pos (positive .divisor-pos) (NL.zero-lt-suc x)) (positive .total-pos))
-          (sum-kept (job .law .order) _ _ (λ i l. sum-kept (severities job weights (suc x)) _ _ (λ y m.
+          (sum-kept (job .law .order) _ _ (λ i l. sum-kept (severities weights (suc x)) _ _ (λ y m.
           kept .by-scaled _ _ _ (before (suc x - suc y) (omega arith) i l))))
           (rule .row-zero x h)
       entry-kept (suc j) (suc x) h before = kept .by-rounded _ _ _ _ (positive .total-pos)
-          (sum-kept (severities job weights (suc x)) _ _ (λ y m.
+          (sum-kept (severities weights (suc x)) _ _ (λ y m.
           kept .by-scaled _ _ _ (before (suc x - suc y) (omega arith) j (omega arith))))
           (rule .row-next j x h)
 

@@ -16,6 +16,10 @@ sum-related Rel 𝟘 plus 𝟘′ plus′ none more (suc n) f g h =
     more (accumulate 𝟘 plus n f) (f n) (accumulate 𝟘′ plus′ n g) (g n)
     (sum-related Rel 𝟘 plus 𝟘′ plus′ none more n f g (λ i l. h i (omega arith))) (h n (omega arith))
 
+pub accumulate-zero : {A : Type 0} (𝟘 : A) (plus : A → A → A) (f : ℕ → A) → accumulate 𝟘 plus 0 f ≡ 𝟘
+unfolding accumulate
+accumulate-zero 𝟘 plus f = refl
+
 -- one term more, as a loop adds it
 pub accumulate-next : {A : Type 0} (𝟘 : A) (plus : A → A → A) (n : ℕ) (f : ℕ → A)
     → plus (accumulate 𝟘 plus n f) (f n) ≡ accumulate 𝟘 plus (n + 1) f

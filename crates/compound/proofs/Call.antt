@@ -51,17 +51,22 @@ module _ (job : Job) (weights : List ℕ) (lent : Lent) where
       let room = passed _ _ _ _ (last .1) in
       let ends = within 1 unit (job .start .high) (or-right (ltb (job .start .high) (job .start .low)) _ (start .0)) in (
         record {
-          order-least = within 1 4 _ (order .0) .0;
-          order-most = within 1 4 _ (order .0) .1;
-          divisor-least = within 1 1000 _ (divisor .0) .0;
-          divisor-most = within 1 1000 _ (divisor .0) .1;
-          a-small = λ i l. small i (job .law .a) (or-left _ _ (right (term .0) i l));
-          b-small = λ i l. small i (job .law .b) (or-right (beyond (termLimit (job .law .order) i) (getD (job .law .a) i (pos 0))) _ (right (term .0) i l));
+          law = record {
+            order-least = within 1 4 _ (order .0) .0;
+            order-most = within 1 4 _ (order .0) .1;
+            divisor-least = within 1 1000 _ (divisor .0) .0;
+            divisor-most = within 1 1000 _ (divisor .0) .1;
+            a-small = λ i l. small i (job .law .a) (or-left _ _ (right (term .0) i l));
+            b-small = λ i l. small i (job .law .b) (or-right (beyond (termLimit (job .law .order) i) (getD (job .law .a) i (pos 0))) _
+                (right (term .0) i l));
+          };
+          table = record {
+            severities-most = within 1 500 _ (severities .0) .1;
+            weights-least = within 1 1000 _ (weight .0) .0;
+            weights-most = within 1 1000 _ (weight .0) .1;
+          };
           start-order = ltb-false (job .start .high) (job .start .low) (or-left _ _ (start .0));
           start-most = ends .1;
-          severities-most = within 1 500 _ (severities .0) .1;
-          weights-least = within 1 1000 _ (weight .0) .0;
-          weights-most = within 1 1000 _ (weight .0) .1;
           last-most = ltb-false 500 (job .last) (last .0);
         },
         long (room .0),

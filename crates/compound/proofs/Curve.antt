@@ -1,6 +1,6 @@
 -- The entries that are recorded total by total follow the rule: the record at a later total begins with the record at an earlier one, and
 -- the rule reads only the rows 0 to k - 1 at earlier totals.
-use mathlib.Core.Path.{_≡_, refl, sym, ap, _∙_}
+use mathlib.Core.Path.{_≡_, refl, sym, ap, ap₂, _∙_}
 use mathlib.Core.List.{List, [], _∷_, _++_}
 use Prim.Native.Nat.{ℕ, zero, suc, _+_, _-_, _≤_, _<_}
 use native.Mathlib.Nat as NL
@@ -10,12 +10,36 @@ use lib.Seq.{getD-at}
 use Rattle.algebra.specs.Slice.{listed}
 use Rattle.algebra.proofs.Slice.{listed-length, listed-at}
 use Rattle.algebra.proofs.Sum.{accumulate-cong}
+use Rattle.exact.specs.Severity.{totalWeight}
 use Rattle.model.specs.declared.Job.{Job}
 use Rattle.compound.specs.declared.Entry.{Entry}
 use Rattle.compound.specs.Entry.{none, plus, scaled, rounded}
-use Rattle.compound.specs.Curve.{Rows, recorded, factor, sumsZero, sumsNext, entryAt, withNext, history, curveRows, CurveRule, severities}
+use Rattle.compound.specs.Curve.{Rows, recorded, severities, factor, divisorZero, sumsZero, sumsNext, firstEntry}
+use Rattle.compound.specs.Curve.{entryAt, withNext, history, curveRows, CurveRule}
+
+-- a number that is not 0
+pub suc-pred : (n : ℕ) → (n ≡ 0 → ⊥) → n ≡ suc (n - 1)
+suc-pred n h = omega arith
 
 module _ (job : Job) (weights : List ℕ) where
+  -- the rule, by the tests of the code
+  module _ (rows : Rows) (j x : ℕ) where
+    pub entry-first : x ≡ 0 → entryAt job weights rows j x ≡ firstEntry (job .start) j
+    unfolding entryAt
+    entry-first e = ap (entryAt job weights rows j) e
+
+    pub entry-zero : (x ≡ 0 → ⊥) → j ≡ 0
+        → entryAt job weights rows j x ≡ rounded (divisorZero (job .law) weights x) (sumsZero (job .law) weights rows x)
+    unfolding entryAt
+    entry-zero later e = ap₂ (entryAt job weights rows) e (suc-pred x later)
+        ∙ ap (λ (n : ℕ). rounded (divisorZero (job .law) weights n) (sumsZero (job .law) weights rows n)) (sym (suc-pred x later))
+
+    pub entry-next : (total : ℕ) → total ≡ totalWeight weights → (x ≡ 0 → ⊥) → (j ≡ 0 → ⊥)
+        → entryAt job weights rows j x ≡ rounded total (sumsNext weights rows (j - 1) x)
+    unfolding entryAt
+    entry-next total w later further = ap₂ (entryAt job weights rows) (suc-pred j further) (suc-pred x later)
+        ∙ ap₂ (λ (d n : ℕ). rounded d (sumsNext weights rows (j - 1) n)) (sym w) (sym (suc-pred x later))
+
   -- two records that agree in the rows 0 to k - 1 at the totals below x
   abbrev pub Agree : Rows → Rows → ℕ → Type 0
   Agree rows rows′ x = (j z : ℕ) → j < job .law .order → z < x → rows j z ≡ rows′ j z
@@ -26,9 +50,9 @@ module _ (job : Job) (weights : List ℕ) where
   unfolding entryAt sumsZero sumsNext
   entry-local rows rows′ j zero h agree = refl
   entry-local rows rows′ zero (suc x) h agree = ap (rounded _) (accumulate-cong none plus (job .law .order) (λ i l.
-      accumulate-cong none plus (severities job weights (suc x)) (λ y m.
-      ap (scaled (factor job weights (suc x) i y)) (agree i (suc x - suc y) l (omega arith)))))
-  entry-local rows rows′ (suc j) (suc x) h agree = ap (rounded _) (accumulate-cong none plus (severities job weights (suc x)) (λ y m.
+      accumulate-cong none plus (severities weights (suc x)) (λ y m.
+      ap (scaled (factor (job .law) weights (suc x) i y)) (agree i (suc x - suc y) l (omega arith)))))
+  entry-local rows rows′ (suc j) (suc x) h agree = ap (rounded _) (accumulate-cong none plus (severities weights (suc x)) (λ y m.
       ap (scaled _) (agree j (suc x - suc y) (omega arith) (omega arith))))
 
   history-length : (n : ℕ) → length (history job weights n) ≡ n

@@ -4,4 +4,5 @@ pub mod Curve
 pub mod Scaled
 pub mod Sizes
 pub mod Stored
+pub mod Sums
 pub mod Tests

@@ -8,11 +8,14 @@ use native.Mathlib.Omega.{arith}
 use lib.IntN.{ℤ, pos, negsuc, natAbs, _+ℤ_, _-ℤ_, _*ℤ_}
 use lib.ListN.{length, getD}
 use mir.Syntax.{w64}
+use mir.Val.{SFits}
 use Rattle.algebra.specs.Sum.{accumulate, sumℕ}
 use Rattle.algebra.proofs.Natural.{naturals}
 use Rattle.algebra.proofs.Sum.{sum-zero, sum-shift, sum-vanishes}
 use Rattle.algebra.proofs.Size.{size-add, size-sub, size-mul-le, size-fits}
 use Rattle.exact.specs.Severity.{totalWeight}
+use Rattle.outward.specs.Division.{ceilDiv}
+use Rattle.outward.proofs.Division.{ceil-size}
 use Rattle.compound.specs.declared.Entry.{Entry}
 use Rattle.compound.specs.declared.term.Factor.{Factor}
 use Rattle.compound.specs.Entry.{unit, plus, scaled}
@@ -54,6 +57,10 @@ module _ (column : Entry → ℤ) (adds : (d e : Entry) → column (plus d e) �
     running-size s g w m n (λ y l. h y (omega arith)),
     h n (omega arith),
   ))
+
+-- ---- the quotient of a bound's sum, and one more
+pub quotient-fits : (z : ℤ) (d : ℕ) → natAbs z ≤ 4000000000000000000 → SFits w64 (ceilDiv z d +ℤ pos 1)
+quotient-fits z d h = size-fits w64 (ceilDiv z d +ℤ pos 1) (omega (arith, size-add (ceilDiv z d) (pos 1), ceil-size z d))
 
 -- ---- a term
 module _ (sums : Entry) (f : Factor) (x : ℕ) (weights : List ℕ) (row : ℕ → Entry) (h : TermRoom sums f x weights row) where

@@ -13,6 +13,7 @@ use Rattle.compound.specs.declared.Entry.{Entry}
 use Rattle.compound.specs.declared.term.Factor.{Factor}
 use Rattle.compound.specs.Entry.{plus, scaled}
 use Rattle.compound.specs.Call.{Lent, lentRows, workPlaces}
+use Rattle.compound.proofs.Curve.{suc-pred}
 use Rattle.compound.specs.Room.{LongEnough, Reachable, Small, TermRoom, termSums, entryOf, columnsAt, stored, placed}
 
 -- ---- a term reads its row below x alone
@@ -44,10 +45,6 @@ columns-in places j h = omega (arith, NL.mul-le-mul-right places (three j h))
 pub part-at : (work : List ℤ) (at n z : ℕ) → z < n → getD (take (at + n - at) (drop at work)) z (pos 0) ≡ getD work (at + z) (pos 0)
 part-at work at n z h = getD-take (at + n - at) (drop at work) z (pos 0) (omega arith) ∙ getD-drop at work z (pos 0)
 
--- a row that is not row 0
-pub further : (j : ℕ) → (j ≡ 0 → ⊥) → j ≡ suc (j - 1)
-further j h = omega arith
-
 -- the entry at z of the three parts that begin at a place
 abbrev pub partsAt : List ℤ → ℕ → ℕ → ℕ → Entry
 partsAt work at n = entryOf (take (at + n - at) (drop at work)) (take (at + n + n - (at + n)) (drop (at + n) work))
@@ -65,7 +62,7 @@ columnEntry work n at z = record {
 pub parts-stored : (places : ℕ) (lent : Lent) (j at z : ℕ) → (j ≡ 0 → ⊥) → at ≡ columnsAt places (j - 1) → z < places
     → stored places lent j z ≡ partsAt (lent .work) at places z
 parts-stored places lent j at z above e h =
-    ap (λ (k : ℕ). stored places lent k z) (further j above)
+    ap (λ (k : ℕ). stored places lent k z) (suc-pred j above)
     ∙ sym ((λ i. record {
       low = part-at (lent .work) at places z h i;
       high = part-at (lent .work) (at + places) places z h i;
@@ -91,4 +88,4 @@ pub placed-further : (places : ℕ) (lent : Lent) (j at x : ℕ) (e : Entry) →
     → lentRows (lent .low) (lent .high) (lent .bound) (putColumns (lent .work) at places x e) ≡ placed places lent j x e
 placed-further places lent j at x e above h =
     ap (λ (k : ℕ). lentRows (lent .low) (lent .high) (lent .bound) (putColumns (lent .work) k places x e)) h
-    ∙ ap (λ (k : ℕ). placed places lent k x e) (sym (further j above))
+    ∙ ap (λ (k : ℕ). placed places lent k x e) (sym (suc-pred j above))

@@ -7,6 +7,7 @@ use lib.ListN.{length, getD}
 use Rattle.algebra.specs.Slice.{listed}
 use Rattle.exact.specs.Severity.{totalWeight}
 use Rattle.model.specs.declared.Law.{Law}
+use Rattle.model.specs.declared.Start.{Start}
 use Rattle.model.specs.declared.Job.{Job}
 use Rattle.compound.specs.declared.Entry.{Entry}
 use Rattle.compound.specs.Entry.{none, sumOf, scaled, rounded}
@@ -19,41 +20,42 @@ Rows = ℕ → ℕ → Entry
 abbrev pub recorded : List (List Entry) → Rows
 recorded totals j z = getD (getD totals z []) j none
 
-module _ (job : Job) (weights : List ℕ) where
+-- "y from 1 to the smaller of x and m"
+abbrev pub severities : List ℕ → ℕ → ℕ
+severities weights x = min x (length weights)
+
+module _ (law : Law) (weights : List ℕ) where
   -- "(A_i times x + B_i times y) times w(y)", of term i + 1 and severity y + 1 at total x
   unfoldable pub factor : ℕ → ℕ → ℕ → ℤ
-  factor x i y = (getD (job .law .a) i (pos 0) *ℤ pos x +ℤ getD (job .law .b) i (pos 0) *ℤ pos (suc y)) *ℤ pos (getD weights y 0)
-
-  -- "y from 1 to the smaller of x and m"
-  abbrev pub severities : ℕ → ℕ
-  severities x = min x (length weights)
+  factor x i y = (getD (law .a) i (pos 0) *ℤ pos x +ℤ getD (law .b) i (pos 0) *ℤ pos (suc y)) *ℤ pos (getD weights y 0)
 
   -- "Row 0 sums, over i from 1 to k and over y, the product .. times the entry of row i-1 at x-y."
   unfoldable pub sumsZero : Rows → ℕ → Entry
-  sumsZero rows x = sumOf (job .law .order) (λ i. sumOf (severities x) (λ y. scaled (factor x i y) (rows i (x - suc y))))
+  sumsZero rows x = sumOf (law .order) (λ i. sumOf (severities weights x) (λ y. scaled (factor x i y) (rows i (x - suc y))))
 
   -- "The divisor is D times x times W."
   abbrev pub divisorZero : ℕ → ℕ
-  divisorZero x = job .law .divisor * x * totalWeight weights
+  divisorZero x = law .divisor * x * totalWeight weights
 
-  -- "Row j ≥ 1 sums w(y) times the entry of row j-1 at x-y.", of row j + 1
-  unfoldable pub sumsNext : Rows → ℕ → ℕ → Entry
-  sumsNext rows j x = sumOf (severities x) (λ y. scaled (pos (getD weights y 0)) (rows j (x - suc y)))
+-- "Row j ≥ 1 sums w(y) times the entry of row j-1 at x-y.", of row j + 1
+unfoldable pub sumsNext : List ℕ → Rows → ℕ → ℕ → Entry
+sumsNext weights rows j x = sumOf (severities weights x) (λ y. scaled (pos (getD weights y 0)) (rows j (x - suc y)))
 
-  -- "At total 0: row 0 has low s, high t, bound t-s. Other rows have 0, 0, 0."
-  abbrev pub firstEntry : ℕ → Entry
-  firstEntry zero = record {
-    low = pos (job .start .low);
-    high = pos (job .start .high);
-    bound = pos (job .start .high) -ℤ pos (job .start .low);
-  }
-  firstEntry (suc j) = none
+-- "At total 0: row 0 has low s, high t, bound t-s. Other rows have 0, 0, 0."
+abbrev pub firstEntry : Start → ℕ → Entry
+firstEntry start zero = record {
+  low = pos (start .low);
+  high = pos (start .high);
+  bound = pos (start .high) -ℤ pos (start .low);
+}
+firstEntry start (suc j) = none
 
+module _ (job : Job) (weights : List ℕ) where
   -- the entry of row j at total x, from the entries at earlier totals; the divisor of a row j ≥ 1 is W
   unfoldable pub entryAt : Rows → ℕ → ℕ → Entry
-  entryAt rows j zero = firstEntry j
-  entryAt rows zero (suc x) = rounded (divisorZero (suc x)) (sumsZero rows (suc x))
-  entryAt rows (suc j) (suc x) = rounded (totalWeight weights) (sumsNext rows j (suc x))
+  entryAt rows j zero = firstEntry (job .start) j
+  entryAt rows zero (suc x) = rounded (divisorZero (job .law) weights (suc x)) (sumsZero (job .law) weights rows (suc x))
+  entryAt rows (suc j) (suc x) = rounded (totalWeight weights) (sumsNext weights rows j (suc x))
 
   -- the entries of the rows 0 to k - 1 at the totals 0 to n, from those at the totals 0 to n - 1
   unfoldable pub withNext : List (List Entry) → ℕ → List (List Entry)

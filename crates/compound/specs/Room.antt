@@ -9,6 +9,7 @@ use mir.Val.{SFits}
 use Rattle.algebra.specs.Sum.{accumulate}
 use Rattle.exact.specs.Severity.{totalWeight}
 use Rattle.model.specs.declared.Job.{Job}
+use Rattle.model.specs.declared.Law.{Law}
 use Rattle.compound.specs.declared.Entry.{Entry}
 use Rattle.compound.specs.declared.term.Factor.{Factor}
 use Rattle.compound.specs.Entry.{unit, plus, scaled}
@@ -16,19 +17,27 @@ use Rattle.compound.specs.Curve.{Rows}
 use Rattle.compound.specs.Call.{Lent, workPlaces}
 
 -- ---- a job that passed the checks
--- what checks 1 to 7 leave
-pub record Limits (job : Job) (weights : List ℕ) : Type 0 where
-  pub order-least : 1 ≤ job .law .order
-  pub order-most : job .law .order ≤ 4
-  pub divisor-least : 1 ≤ job .law .divisor
-  pub divisor-most : job .law .divisor ≤ 1000
-  pub a-small : (i : ℕ) → i < 4 → natAbs (getD (job .law .a) i (pos 0)) ≤ 1000
-  pub b-small : (i : ℕ) → i < 4 → natAbs (getD (job .law .b) i (pos 0)) ≤ 1000
-  pub start-order : job .start .low ≤ job .start .high
-  pub start-most : job .start .high ≤ unit
+-- what checks 1 to 3 leave of its law
+pub record LawLimits (law : Law) : Type 0 where
+  pub order-least : 1 ≤ law .order
+  pub order-most : law .order ≤ 4
+  pub divisor-least : 1 ≤ law .divisor
+  pub divisor-most : law .divisor ≤ 1000
+  pub a-small : (i : ℕ) → i < 4 → natAbs (getD (law .a) i (pos 0)) ≤ 1000
+  pub b-small : (i : ℕ) → i < 4 → natAbs (getD (law .b) i (pos 0)) ≤ 1000
+
+-- what checks 5 and 6 leave of its table
+pub record TableLimits (weights : List ℕ) : Type 0 where
   pub severities-most : length weights ≤ 500
   pub weights-least : 1 ≤ totalWeight weights
   pub weights-most : totalWeight weights ≤ 1000
+
+-- what checks 1 to 7 leave
+pub record Limits (job : Job) (weights : List ℕ) : Type 0 where
+  pub law : LawLimits (job .law)
+  pub table : TableLimits weights
+  pub start-order : job .start .low ≤ job .start .high
+  pub start-most : job .start .high ≤ unit
   pub last-most : job .last ≤ 500
 
 -- what check 8 leaves
@@ -129,3 +138,21 @@ pub record Reachable (places x : ℕ) (lent : Lent) (j : ℕ) : Type 0 where
   pub places-most : places ≤ 501
   pub total-below : x < places
   pub long : LongEnough places lent
+
+-- ---- the entries of one total
+-- A x + B y, of term i + 1
+abbrev pub termFactor : Law → ℕ → ℕ → Factor
+termFactor law x i = record { constant = getD (law .a) i (pos 0) *ℤ pos x; slope = getD (law .b) i (pos 0) }
+
+-- w(y) alone, of a further row
+abbrev pub weightAlone : Factor
+weightAlone = record { constant = pos 1; slope = pos 0 }
+
+-- where the entries at total x are computed: law and table passed the checks, and no entry at an earlier total has a fault
+pub record Ready (law : Law) (weights : List ℕ) (places x : ℕ) (lent : Lent) : Type 0 where
+  pub law-limits : LawLimits law
+  pub table-limits : TableLimits weights
+  pub long : LongEnough places lent
+  pub places-most : places ≤ 501
+  pub total-below : x < places
+  pub earlier : (j z : ℕ) → j < law .order → z < x → Small (stored places lent j z)

@@ -4,6 +4,7 @@ mod check;
 mod rows;
 mod rule;
 mod term;
+mod total;
 
 // An entry of a row, in units.
 pub struct Entry {

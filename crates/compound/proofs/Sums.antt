@@ -1,0 +1,151 @@
+-- The sums of a row, term by term: a term's sums add to those before it what the definition has there, and four terms fit 64 bits.
+use mathlib.Core.Path.{_≡_, refl, sym, ap, ap₂, _∙_, subst}
+use mathlib.Core.List.{List}
+use Prim.Native.Nat.{ℕ, zero, suc, _+_, _-_, _*_, _≤_, _<_, zero-le}
+use native.Mathlib.Nat as NL
+use native.Mathlib.Numerals.{add-one}
+use native.Mathlib.Omega.{arith}
+use lib.Dec.{lit≤}
+use lib.IntN.{ℤ, pos, natAbs, _+ℤ_, _*ℤ_, +ℤ-assoc, +ℤ-comm, +ℤ-idr}
+use lib.ListN.{getD}
+use mir.Syntax.{w64}
+use mir.Val.{SFits}
+use Rattle.algebra.specs.Sum.{accumulate}
+use Rattle.algebra.proofs.Sum.{accumulate-zero, accumulate-next, accumulate-from, accumulate-cong}
+use Rattle.algebra.proofs.Size.{size-mul-le}
+use Rattle.outward.specs.Division.{ceilDiv}
+use Rattle.model.specs.declared.Law.{Law}
+use Rattle.compound.specs.declared.Entry.{Entry}
+use Rattle.compound.specs.declared.term.Factor.{Factor}
+use Rattle.compound.specs.Entry.{none, plus, sumOf, scaled}
+use Rattle.compound.specs.Curve.{Rows, severities, factor, sumsZero, sumsNext}
+use Rattle.compound.specs.Call.{Lent}
+use Rattle.compound.specs.Room.{Ready, Reachable, Small, TermRoom, lineFactor, termSums, termFactor, weightAlone, stored}
+use Rattle.compound.proofs.Scaled.{same-entry}
+use Rattle.compound.proofs.Sizes.{term-size, quotient-fits}
+
+plus-assoc : (d e f : Entry) → plus (plus d e) f ≡ plus d (plus e f)
+plus-assoc d e f = same-entry (+ℤ-assoc (d .low) (e .low) (f .low)) (+ℤ-assoc (d .high) (e .high) (f .high))
+    (+ℤ-assoc (d .bound) (e .bound) (f .bound))
+
+plus-none : (e : Entry) → plus e none ≡ e
+plus-none e = same-entry (+ℤ-idr (e .low)) (+ℤ-idr (e .high)) (+ℤ-idr (e .bound))
+
+-- a further row is a term whose factor is the weight
+pub next-is : (weights : List ℕ) (x : ℕ) (rows : Rows) (j : ℕ)
+    → termSums none (lineFactor weightAlone weights) x weights (rows j) ≡ sumsNext weights rows j x
+unfolding sumsNext
+next-is weights x rows j = accumulate-cong none plus (severities weights x) (λ y l.
+    ap₂ (λ (z : ℤ) (n : ℕ). scaled z (rows j (x - n))) (ap pos (omega arith)) (add-one y))
+
+module _ (law : Law) (weights : List ℕ) (x : ℕ) where
+  -- the code's factor of a term is the definition's
+  factor-is : (i y : ℕ) → lineFactor (termFactor law x i) weights y ≡ factor law weights x i y
+  unfolding factor
+  factor-is i y =
+      let a = getD (law .a) i (pos 0) *ℤ pos x in
+      let b = getD (law .b) i (pos 0) in
+      ap (λ (n : ℕ). (b *ℤ pos n +ℤ a) *ℤ pos (getD weights y 0)) (add-one y)
+      ∙ ap (λ (z : ℤ). z *ℤ pos (getD weights y 0)) (+ℤ-comm (b *ℤ pos (suc y)) a)
+
+  -- what term i + 1 adds
+  abbrev termSum : (ℕ → Entry) → ℕ → Entry
+  termSum row i = sumOf (severities weights x) (λ y. scaled (factor law weights x i y) (row (x - suc y)))
+
+  term-adds : (sums : Entry) (row : ℕ → Entry) (i : ℕ)
+      → termSums sums (lineFactor (termFactor law x i) weights) x weights row ≡ plus sums (termSum row i)
+  term-adds sums row i =
+      accumulate-cong sums plus (severities weights x) (λ y l.
+      ap₂ (λ (z : ℤ) (n : ℕ). scaled z (row (x - n))) (factor-is i y) (add-one y))
+      ∙ accumulate-from none plus plus-assoc plus-none sums (severities weights x)
+      (λ y. scaled (factor law weights x i y) (row (x - suc y)))
+
+  -- the sums of the first n terms
+  abbrev pub termsBelow : Rows → ℕ → Entry
+  termsBelow rows n = sumOf n (λ i. termSum (rows i) i)
+
+  pub terms-more : (rows : Rows) (n : ℕ)
+      → termSums (termsBelow rows n) (lineFactor (termFactor law x n) weights) x weights (rows n) ≡ termsBelow rows (n + 1)
+  terms-more rows n = term-adds (termsBelow rows n) (rows n) n ∙ accumulate-next none plus n (λ i. termSum (rows i) i)
+
+  pub terms-all : (rows : Rows) → termsBelow rows (law .order) ≡ sumsZero law weights rows x
+  unfolding sumsZero
+  terms-all rows = refl
+
+  module _ (places : ℕ) (lent : Lent) (ready : Ready law weights places x lent) where
+    abbrev rows : Rows
+    rows = stored places lent
+
+    pub reachable : (j : ℕ) → j < law .order → Reachable places x lent j
+    reachable j l = record {
+      row-most = omega (arith, ready .law-limits .order-most);
+      places-most = ready .places-most;
+      total-below = ready .total-below;
+      long = ready .long;
+    }
+
+    x-most : x ≤ 500
+    x-most = omega (arith, ready .total-below, ready .places-most)
+
+    -- sums that are no larger than n terms can make them
+    record Size (sums : Entry) (n : ℕ) : Type 0 where
+      low : natAbs (sums .low) ≤ n * 2000000000000000000
+      high : natAbs (sums .high) ≤ n * 2000000000000000000
+      bound : natAbs (sums .bound) ≤ n * 1000000000000000000
+
+    size-none : Size none 0
+    size-none = record { low = zero-le; high = zero-le; bound = zero-le }
+
+    room : (f : Factor) → natAbs (f .constant) ≤ 500000 → natAbs (f .slope) ≤ 1000 → (sums : Entry) (n : ℕ) → n ≤ 3 → Size sums n
+        → (j : ℕ) → j < law .order → TermRoom sums f x weights (rows j)
+    room f constant slope sums n k s j l = record {
+      constant-small = constant;
+      slope-small = slope;
+      x-small = x-most;
+      weights-small = ready .table-limits .weights-most;
+      row-small = λ z m. ready .earlier j z l m;
+      low-sum = omega (arith, s .low);
+      high-sum = omega (arith, s .high);
+      bound-sum = omega (arith, s .bound);
+    }
+
+    size-more : (f : Factor) (sums : Entry) (n j : ℕ) → TermRoom sums f x weights (rows j) → Size sums n
+        → Size (termSums sums (lineFactor f weights) x weights (rows j)) (n + 1)
+    size-more f sums n j h s =
+        let t = term-size sums f x weights (rows j) h in
+        record { low = omega (arith, t .0, s .low); high = omega (arith, t .1, s .high); bound = omega (arith, t .2, s .bound) }
+
+    -- ---- row 0
+    pub a-most : (i : ℕ) → i < law .order → natAbs (getD (law .a) i (pos 0)) ≤ 1000
+    a-most i l = ready .law-limits .a-small i (omega (arith, ready .law-limits .order-most))
+
+    term-room-of : (i : ℕ) → i < law .order → Size (termsBelow rows i) i
+        → TermRoom (termsBelow rows i) (termFactor law x i) x weights (rows i)
+    term-room-of i l s = room (termFactor law x i)
+        (size-mul-le (getD (law .a) i (pos 0)) (pos x) 1000 500 (a-most i l) x-most)
+        (ready .law-limits .b-small i (omega (arith, ready .law-limits .order-most)))
+        (termsBelow rows i) i (omega (arith, ready .law-limits .order-most)) s i l
+
+    terms-size : (n : ℕ) → n ≤ law .order → Size (termsBelow rows n) n
+    terms-size zero l = subst (λ (e : Entry). Size e 0) (sym (accumulate-zero none plus (λ i. termSum (rows i) i))) size-none
+    terms-size (suc n) l =
+        let s = terms-size n (omega arith) in
+        subst (λ (m : ℕ). Size (termsBelow rows m) m) (add-one n)
+        (subst (λ (e : Entry). Size e (n + 1)) (terms-more rows n)
+        (size-more (termFactor law x n) (termsBelow rows n) n n (term-room-of n l s) s))
+
+    pub term-room : (i : ℕ) → i < law .order → TermRoom (termsBelow rows i) (termFactor law x i) x weights (rows i)
+    term-room i l = term-room-of i l (terms-size i (omega arith))
+
+    -- ---- a further row
+    pub next-room : (j : ℕ) → j < law .order → TermRoom none weightAlone x weights (rows j)
+    next-room j l = room weightAlone (lit≤ tt) (lit≤ tt) none 0 zero-le size-none j l
+
+    -- ---- the sums that are divided
+    pub zero-fits : (d : ℕ) → SFits w64 (ceilDiv (sumsZero law weights rows x .bound) d +ℤ pos 1)
+    zero-fits d = subst (λ (e : Entry). SFits w64 (ceilDiv (e .bound) d +ℤ pos 1)) (terms-all rows)
+        (quotient-fits (termsBelow rows (law .order) .bound) d (omega (
+          arith,
+          terms-size (law .order) (NL.le-refl _) .bound,
+          ready .law-limits .order-most,
+        )))

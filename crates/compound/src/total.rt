@@ -1,0 +1,156 @@
+// The entries of one total, from the rows at earlier totals.
+
+use super::rows::add_row;
+use super::rule::divide_sums;
+use super::term::Factor;
+use super::Entry;
+use model::Job;
+use model::Law;
+use model::Start;
+ghost use mathlib.Core.Path.{_≡_};
+ghost use Prim.Native.Nat.{_≤_, _<_, _^_};
+ghost use lib.IntN.{pos, natAbs};
+ghost use lib.ListN.{getD};
+ghost use Rattle.exact.specs.Severity.{totalWeight};
+ghost use Rattle.compound.specs.Entry.{none, rounded, unit};
+ghost use Rattle.compound.specs.Curve.{firstEntry, sumsZero, sumsNext, divisorZero, entryAt};
+ghost use Rattle.compound.specs.Call.{lentRows};
+ghost use Rattle.compound.specs.Room.{Limits, Ready, Reachable, TermRoom, termFactor, weightAlone, stored};
+
+// The factor of term `i` + 1: A x + B y, times w(y).
+fn term_factor(law: Law, x: usize, i: usize) -> Factor
+    requires { ⌜ (i < 4) × (x ≤ 500) × (natAbs (getD (law .a) i (pos 0)) ≤ 1000) ⌝ }
+    ensures { λ r. ⌜ r ≡ termFactor law x i ⌝ }
+{
+    let a = law.a;
+    let b = law.b;
+    Factor {
+        constant: a[i] * x as i64,
+        slope: b[i],
+    }
+}
+
+// The sums of row 0, term by term.
+fn sums_zero(
+    law: Law,
+    x: usize,
+    weights: &[u64],
+    low: &[i64],
+    high: &[i64],
+    bound: &[i64],
+    work: &[i64],
+    places: usize,
+) -> Entry
+    requires { ⌜ Ready law (now weights) places x (lentRows (now low) (now high) (now bound) (now work)) ⌝ }
+    ensures { λ r. ⌜ r ≡ sumsZero law (now (weights .entry)) (stored places (lentRows (now (low .entry)) (now (high .entry)) (now (bound .entry)) (now (work .entry)))) x ⌝ }
+{
+    let order = law.order as usize;
+    let mut sums = Entry {
+        low: 0,
+        high: 0,
+        bound: 0,
+    };
+    for i in 0..order {
+        let factor = term_factor(law, x, i);
+        sums = add_row(sums, factor, x, weights, low, high, bound, work, places, i);
+    }
+    sums
+}
+
+// The entry of row 0.
+fn entry_zero(
+    law: Law,
+    total: u64,
+    x: usize,
+    weights: &[u64],
+    low: &[i64],
+    high: &[i64],
+    bound: &[i64],
+    work: &[i64],
+    places: usize,
+) -> Entry
+    requires { ⌜ (1 ≤ x) × (total ≡ totalWeight (now weights)) ⌝ }
+    requires { ⌜ Ready law (now weights) places x (lentRows (now low) (now high) (now bound) (now work)) ⌝ }
+    ensures { λ r. ⌜ r ≡ rounded (divisorZero law (now (weights .entry)) x) (sumsZero law (now (weights .entry)) (stored places (lentRows (now (low .entry)) (now (high .entry)) (now (bound .entry)) (now (work .entry)))) x) ⌝ }
+{
+    let divisor = law.divisor * x as u64 * total;
+    let sums = sums_zero(law, x, weights, low, high, bound, work, places);
+    divide_sums(sums, divisor)
+}
+
+// The entry of a further row: the row before it, convolved with the weights.
+fn entry_next(
+    total: u64,
+    x: usize,
+    weights: &[u64],
+    low: &[i64],
+    high: &[i64],
+    bound: &[i64],
+    work: &[i64],
+    places: usize,
+    before: usize,
+) -> Entry
+    requires { ⌜ (1 ≤ total) × (total < 2 ^ 63) ⌝ }
+    requires { ⌜ Reachable places x (lentRows (now low) (now high) (now bound) (now work)) before ⌝ }
+    requires { ⌜ TermRoom none weightAlone x (now weights) (stored places (lentRows (now low) (now high) (now bound) (now work)) before) ⌝ }
+    ensures { λ r. ⌜ r ≡ rounded total (sumsNext (now (weights .entry)) (stored places (lentRows (now (low .entry)) (now (high .entry)) (now (bound .entry)) (now (work .entry)))) before x) ⌝ }
+{
+    let none = Entry {
+        low: 0,
+        high: 0,
+        bound: 0,
+    };
+    let weight = Factor {
+        constant: 1,
+        slope: 0,
+    };
+    let sums = add_row(none, weight, x, weights, low, high, bound, work, places, before);
+    divide_sums(sums, total)
+}
+
+// The entry of row `row` at total 0.
+fn first_entry(start: Start, row: usize) -> Entry
+    requires { ⌜ (start .low ≤ start .high) × (start .high ≤ unit) ⌝ }
+    ensures { λ r. ⌜ r ≡ firstEntry start row ⌝ }
+{
+    if row == 0 {
+        let low = start.low as i64;
+        let high = start.high as i64;
+        return Entry {
+            low,
+            high,
+            bound: high - low,
+        };
+    }
+    Entry {
+        low: 0,
+        high: 0,
+        bound: 0,
+    }
+}
+
+// The entry of row `row` at total `x`; `total` is the sum of the weights.
+pub fn entry_at(
+    job: Job,
+    total: u64,
+    x: usize,
+    weights: &[u64],
+    low: &[i64],
+    high: &[i64],
+    bound: &[i64],
+    work: &[i64],
+    places: usize,
+    row: usize,
+) -> Entry
+    requires { ⌜ (row < job .law .order) × (total ≡ totalWeight (now weights)) × Limits job (now weights) ⌝ }
+    requires { ⌜ Ready (job .law) (now weights) places x (lentRows (now low) (now high) (now bound) (now work)) ⌝ }
+    ensures { λ r. ⌜ r ≡ entryAt job (now (weights .entry)) (stored places (lentRows (now (low .entry)) (now (high .entry)) (now (bound .entry)) (now (work .entry)))) row x ⌝ }
+{
+    if x == 0 {
+        return first_entry(job.start, row);
+    }
+    if row == 0 {
+        return entry_zero(job.law, total, x, weights, low, high, bound, work, places);
+    }
+    entry_next(total, x, weights, low, high, bound, work, places, row - 1)
+}
