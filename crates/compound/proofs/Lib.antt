@@ -1,4 +1,5 @@
 -- Proofs that the functions of the crate share.
+pub mod Advanced
 pub mod Call
 pub mod Curve
 pub mod Scaled

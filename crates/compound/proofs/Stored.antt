@@ -4,9 +4,11 @@ use mathlib.Core.Path.{_≡_, refl, sym, ap, _∙_, subst}
 use mathlib.Core.List.{List}
 use Prim.Native.Nat.{ℕ, zero, suc, _+_, _-_, _*_, _≤_, _<_, min}
 use native.Mathlib.Nat as NL
+use native.Mathlib.Decide.{decLt}
 use native.Mathlib.Omega.{arith}
+use lib.Dec.{lit<}
 use lib.IntN.{ℤ, pos}
-use lib.ListN.{length, getD, take, drop, set, length-drop}
+use lib.ListN.{length, getD, take, drop, set, length-drop, length-set}
 use lib.Seq.{length-take-le, getD-take, getD-drop, getD-set-same, getD-set-other}
 use Rattle.algebra.proofs.Sum.{accumulate-cong}
 use Rattle.compound.specs.declared.Entry.{Entry}
@@ -89,3 +91,100 @@ pub placed-further : (places : ℕ) (lent : Lent) (j at x : ℕ) (e : Entry) →
 placed-further places lent j at x e above h =
     ap (λ (k : ℕ). lentRows (lent .low) (lent .high) (lent .bound) (putColumns (lent .work) k places x e)) h
     ∙ ap (λ (k : ℕ). placed places lent k x e) (sym (suc-pred j above))
+
+-- two cells of the work row that are not in one column at one total are two places
+cell-apart : (n a b z x : ℕ) → z < n → x < n → (a ≡ b → z ≡ x → ⊥) → a * n + z ≡ b * n + x → ⊥
+cell-apart n a b z x hz hx apart e = by (decLt a b) (decLt b a)
+  where
+    same : (a < b → ⊥) → (b < a → ⊥) → a ≡ b
+    same h k = omega arith
+
+    by : Dec (a < b) → Dec (b < a) → ⊥
+    by (yes h) k = omega (arith, NL.mul-le-mul-right n h)
+    by (no h) (yes k) = omega (arith, NL.mul-le-mul-right n k)
+    by (no h) (no k) = apart (same h k) (omega (arith, ap (λ (m : ℕ). m * n) (same h k)))
+
+-- the column c of row j + 1
+abbrev column : ℕ → ℕ → ℕ → ℕ → ℕ
+column n j c z = (3 * j + c) * n + z
+
+module _ (n : ℕ) (work : List ℤ) (j x : ℕ) (e : Entry) (hx : x < n) where
+  -- a place that is in none of the three cells
+  put-other : (k : ℕ) → (k ≡ columnsAt n j + x → ⊥) → (k ≡ columnsAt n j + n + x → ⊥) → (k ≡ columnsAt n j + n + n + x → ⊥)
+      → getD (putColumns work (columnsAt n j) n x e) k (pos 0) ≡ getD work k (pos 0)
+  put-other k low high bound =
+      getD-set-other (set (set work (columnsAt n j + x) (e .low)) (columnsAt n j + n + x) (e .high)) (columnsAt n j + n + n + x) k (e .bound) (pos 0) bound
+      ∙ getD-set-other (set work (columnsAt n j + x) (e .low)) (columnsAt n j + n + x) k (e .high) (pos 0) high
+      ∙ getD-set-other work (columnsAt n j + x) k (e .low) (pos 0) low
+
+  -- a cell of another row or at another total, in the column c
+  cell-kept : (i c z : ℕ) → c < 3 → z < n → (i ≡ j → z ≡ x → ⊥) → (k : ℕ) → k ≡ column n i c z
+      → getD (putColumns work (columnsAt n j) n x e) k (pos 0) ≡ getD work k (pos 0)
+  cell-kept i c z hc hz apart k at = put-other k
+      (λ p. cell-apart n (3 * i + c) (3 * j + 0) z x hz hx (λ q. apart (same 0 (lit< tt) q)) (sym at ∙ p ∙ omega arith))
+      (λ p. cell-apart n (3 * i + c) (3 * j + 1) z x hz hx (λ q. apart (same 1 (lit< tt) q)) (sym at ∙ p ∙ omega arith))
+      (λ p. cell-apart n (3 * i + c) (3 * j + 2) z x hz hx (λ q. apart (same 2 (lit< tt) q)) (sym at ∙ p ∙ omega arith))
+    where
+      same : (d : ℕ) → d < 3 → 3 * i + c ≡ 3 * j + d → i ≡ j
+      same d hd q = omega arith
+
+  pub columns-kept : (i z : ℕ) → z < n → (i ≡ j → z ≡ x → ⊥)
+      → columnEntry (putColumns work (columnsAt n j) n x e) n (columnsAt n i) z ≡ columnEntry work n (columnsAt n i) z
+  columns-kept i z hz apart = λ k. record {
+    low = cell-kept i 0 z (lit< tt) hz apart (columnsAt n i + z) (omega arith) k;
+    high = cell-kept i 1 z (lit< tt) hz apart (columnsAt n i + n + z) (omega arith) k;
+    bound = cell-kept i 2 z (lit< tt) hz apart (columnsAt n i + n + n + z) (omega arith) k;
+  }
+
+  -- the cells themselves
+  pub columns-put : columnsAt n j + n + n + n ≤ length work
+      → columnEntry (putColumns work (columnsAt n j) n x e) n (columnsAt n j) x ≡ e
+  columns-put h = λ k. record { low = low k; high = high k; bound = bound k }
+    where
+      one : List ℤ
+      one = set work (columnsAt n j + x) (e .low)
+
+      two : List ℤ
+      two = set one (columnsAt n j + n + x) (e .high)
+
+      one-length : length one ≡ length work
+      one-length = length-set work (columnsAt n j + x) (e .low)
+
+      two-length : length two ≡ length work
+      two-length = length-set one (columnsAt n j + n + x) (e .high) ∙ one-length
+
+      low : getD (set two (columnsAt n j + n + n + x) (e .bound)) (columnsAt n j + x) (pos 0) ≡ e .low
+      low = getD-set-other two (columnsAt n j + n + n + x) (columnsAt n j + x) (e .bound) (pos 0) (λ q. omega arith)
+          ∙ getD-set-other one (columnsAt n j + n + x) (columnsAt n j + x) (e .high) (pos 0) (λ q. omega arith)
+          ∙ getD-set-same work (columnsAt n j + x) (e .low) (pos 0) (omega arith)
+
+      high : getD (set two (columnsAt n j + n + n + x) (e .bound)) (columnsAt n j + n + x) (pos 0) ≡ e .high
+      high = getD-set-other two (columnsAt n j + n + n + x) (columnsAt n j + n + x) (e .bound) (pos 0) (λ q. omega arith)
+          ∙ getD-set-same one (columnsAt n j + n + x) (e .high) (pos 0) (omega (arith, one-length))
+
+      bound : getD (set two (columnsAt n j + n + n + x) (e .bound)) (columnsAt n j + n + n + x) (pos 0) ≡ e .bound
+      bound = getD-set-same two (columnsAt n j + n + n + x) (e .bound) (pos 0) (omega (arith, two-length))
+
+module _ (places : ℕ) (lent : Lent) (x : ℕ) (e : Entry) where
+  -- every other entry stays what it was
+  pub placed-other : (j i z : ℕ) → x < places → z < places → (i ≡ j → z ≡ x → ⊥)
+      → stored places (placed places lent j x e) i z ≡ stored places lent i z
+  placed-other zero zero z hx hz apart =
+      let other : z ≡ x → ⊥ = apart refl in
+      (λ k. record {
+        low = getD-set-other (lent .low) x z (e .low) (pos 0) other k;
+        high = getD-set-other (lent .high) x z (e .high) (pos 0) other k;
+        bound = getD-set-other (lent .bound) x z (e .bound) (pos 0) other k;
+      })
+  placed-other zero (suc i) z hx hz apart = refl
+  placed-other (suc j) zero z hx hz apart = refl
+  placed-other (suc j) (suc i) z hx hz apart = columns-kept places (lent .work) j x e hx i z hz (λ p q. apart (ap suc p) q)
+
+  pub placed-own : (j : ℕ) → Reachable places x lent j → stored places (placed places lent j x e) j x ≡ e
+  placed-own zero h = λ k. record {
+    low = getD-set-same (lent .low) x (e .low) (pos 0) (omega (arith, h .total-below, h .long .low-long)) k;
+    high = getD-set-same (lent .high) x (e .high) (pos 0) (omega (arith, h .total-below, h .long .high-long)) k;
+    bound = getD-set-same (lent .bound) x (e .bound) (pos 0) (omega (arith, h .total-below, h .long .bound-long)) k;
+  }
+  placed-own (suc j) h = columns-put places (lent .work) j x e (h .total-below)
+      (NL.le-trans (columns-in places j (omega (arith, h .row-most))) (h .long .work-long))

@@ -1,9 +1,10 @@
 -- What the crate's own functions ask for and work on: the limits of a job that passed the checks, that every number on the way fits, and
 -- the rows as the lent rows hold them.
+use mathlib.Core.Path.{_≡_}
 use mathlib.Core.List.{List}
 use Prim.Native.Nat.{ℕ, zero, suc, _+_, _-_, _*_, _≤_, _<_, _^_, min}
 use lib.IntN.{ℤ, pos, natAbs, _+ℤ_, _-ℤ_, _*ℤ_}
-use lib.ListN.{length, getD, set}
+use lib.ListN.{length, getD, set, drop}
 use mir.Syntax.{w64}
 use mir.Val.{SFits}
 use Rattle.algebra.specs.Sum.{accumulate}
@@ -12,9 +13,10 @@ use Rattle.model.specs.declared.Job.{Job}
 use Rattle.model.specs.declared.Law.{Law}
 use Rattle.compound.specs.declared.Entry.{Entry}
 use Rattle.compound.specs.declared.term.Factor.{Factor}
-use Rattle.compound.specs.Entry.{unit, plus, scaled}
-use Rattle.compound.specs.Curve.{Rows}
-use Rattle.compound.specs.Call.{Lent, workPlaces}
+use Rattle.compound.specs.declared.fill.Faults.{Faults}
+use Rattle.compound.specs.Entry.{unit, plus, scaled, outOfRange, boundTooLarge}
+use Rattle.compound.specs.Curve.{Rows, entryAt}
+use Rattle.compound.specs.Call.{Lent, workPlaces, anyRow}
 
 -- ---- a job that passed the checks
 -- what checks 1 to 3 leave of its law
@@ -156,3 +158,22 @@ pub record Ready (law : Law) (weights : List ℕ) (places x : ℕ) (lent : Lent)
   pub places-most : places ≤ 501
   pub total-below : x < places
   pub earlier : (j z : ℕ) → j < law .order → z < x → Small (stored places lent j z)
+
+-- ---- totals one after the other
+-- the faults that the first n rows have at total x
+abbrev pub faultsBelow : ℕ → Rows → ℕ → Faults
+faultsBelow n rows x = record { range = anyRow outOfRange n rows x; bound = anyRow boundTooLarge n rows x }
+
+-- a row whose places from n on keep what they held
+pub record Kept (n : ℕ) (row row₀ : List ℤ) : Type 0 where
+  pub same-length : length row ≡ length row₀
+  pub later : drop n row ≡ drop n row₀
+
+-- the lent rows after the entries of the rows below n were put at total x
+pub record Advanced (job : Job) (weights : List ℕ) (places x n : ℕ) (lent₀ lent : Lent) : Type 0 where
+  pub low-kept : Kept (x + 1) (lent .low) (lent₀ .low)
+  pub high-kept : Kept (x + 1) (lent .high) (lent₀ .high)
+  pub bound-kept : Kept (x + 1) (lent .bound) (lent₀ .bound)
+  pub work-kept : Kept (workPlaces places) (lent .work) (lent₀ .work)
+  pub earlier : (j z : ℕ) → j < job .law .order → z < x → stored places lent j z ≡ stored places lent₀ j z
+  pub entries : (j : ℕ) → j < n → stored places lent j x ≡ entryAt job weights (stored places lent₀) j x

@@ -1,6 +1,7 @@
 // The curve by the outward rule: every chance as a low and a high with a bound on their gap.
 
 mod check;
+mod fill;
 mod rows;
 mod rule;
 mod term;

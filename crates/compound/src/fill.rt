@@ -1,0 +1,65 @@
+// The rows, filled total by total up to the first total that has a fault.
+
+use super::rows::put;
+use super::rule::is_bound_too_large;
+use super::rule::is_out_of_range;
+use super::total::entry_at;
+use super::Entry;
+use model::Job;
+ghost use mathlib.Core.Path.{_≡_};
+ghost use mathlib.Core.Bool.{_||_};
+ghost use Rattle.exact.specs.Severity.{totalWeight};
+ghost use Rattle.compound.specs.Entry.{outOfRange, boundTooLarge};
+ghost use Rattle.compound.specs.Curve.{entryAt};
+ghost use Rattle.compound.specs.Call.{lentRows};
+ghost use Rattle.compound.specs.Room.{Limits, Ready, stored, faultsBelow, Advanced};
+
+// What the rows of one total show: a low or high out of range, a bound too large.
+pub struct Faults {
+    pub range: bool,
+    pub bound: bool,
+}
+
+fn either(p: bool, q: bool) -> bool
+    ensures { λ r. ⌜ r ≡ (p || q) ⌝ }
+{
+    p || q
+}
+
+fn with_entry(faults: Faults, entry: Entry) -> Faults
+    ensures { λ r. ⌜ r ≡ record { range = faults .range || outOfRange entry; bound = faults .bound || boundTooLarge entry } ⌝ }
+{
+    let range = either(faults.range, is_out_of_range(entry));
+    let bound = either(faults.bound, is_bound_too_large(entry));
+    Faults { range, bound }
+}
+
+// The entries of total `x`, put into the rows; `total` is the sum of the weights.
+fn fill_total(
+    job: Job,
+    total: u64,
+    x: usize,
+    weights: &[u64],
+    low: &mut [i64],
+    high: &mut [i64],
+    bound: &mut [i64],
+    work: &mut [i64],
+    places: usize,
+) -> Faults
+    requires { ⌜ (total ≡ totalWeight (now weights)) × Limits job (now weights) ⌝ }
+    requires { ⌜ Ready (job .law) (now weights) places x (lentRows (now low) (now high) (now bound) (now work)) ⌝ }
+    ensures faults { λ r. ⌜ r ≡ faultsBelow (job .law .order) (entryAt job (now (weights .entry)) (stored places (lentRows (now (low .entry)) (now (high .entry)) (now (bound .entry)) (now (work .entry))))) x ⌝ }
+    ensures rows { λ r. ⌜ Advanced job (now (weights .entry)) places x (job .law .order) (lentRows (now (low .entry)) (now (high .entry)) (now (bound .entry)) (now (work .entry))) (lentRows (now (low .exit)) (now (high .exit)) (now (bound .exit)) (now (work .exit))) ⌝ }
+{
+    let order = job.law.order as usize;
+    let mut faults = Faults {
+        range: false,
+        bound: false,
+    };
+    for row in 0..order {
+        let entry = entry_at(job, total, x, weights, low, high, bound, work, places, row);
+        put(low, high, bound, work, places, row, x, entry);
+        faults = with_entry(faults, entry);
+    }
+    faults
+}
