@@ -1,6 +1,7 @@
-"""Exact amounts by direct convolution, in exact fractions. Nothing here uses the recursion of the proved tool, nor the recursion of its
-count coefficients: those come from the closed forms of the laws."""
+"""Exact amounts by direct convolution, in exact fractions. Nothing here uses the recursion of the proved tool. Count coefficients come from
+the closed forms of the laws; `by_terms` alone takes them from the paper's definition, for a law that is known by its terms."""
 from fractions import Fraction
+from functools import cache
 from math import comb, factorial
 
 
@@ -31,6 +32,18 @@ def together(first, second):
 def pairs(mean):
     """Claims that come two at a time, the pairs by a Poisson law."""
     return lambda n: poisson(mean)(n // 2) if n % 2 == 0 else Fraction(0)
+
+
+def by_terms(divisor, a, b):
+    """P_0 = 1, and P_n is the sum over i from 1 to the smaller of k and n of (a_i + b_i/n) times P_(n-i)."""
+    @cache
+    def coefficient(n):
+        if n == 0:
+            return Fraction(1)
+        terms = zip(a[:n], b[:n])
+        return sum((Fraction(A, divisor) + Fraction(B, divisor) / n) * coefficient(n - i) for i, (A, B) in enumerate(terms, 1))
+
+    return coefficient
 
 
 def convolutions(weights, folds, total):

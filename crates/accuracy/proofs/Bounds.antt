@@ -12,7 +12,7 @@ use Rattle.compound.specs.Entry.{none, plus, scaled, allowance, rounded}
 use Rattle.compound.specs.Curve.{factor, firstEntry, sumsZero, sumsNext, entryAt, curveRows}
 use Rattle.compound.proofs.Curve.{curve-rule}
 use Rattle.accuracy.specs.Accuracy.{Divisible, gap}
-use Rattle.accuracy.proofs.Kept.{Kept, Follows, all-kept}
+use Rattle.compound.proofs.Preserved.{Preserved, Follows, all-preserved}
 
 abbrev pub SameBound : Entry → Entry → Type 0
 SameBound e f = e .bound ≡ f .bound
@@ -25,7 +25,7 @@ same-rounded : (d : ℕ) (e f : Entry) → SameBound e f → SameBound (rounded 
 unfolding rounded
 same-rounded d e f p = ap (λ (b : ℤ). ceilDiv b d +ℤ allowance d) p
 
-abbrev same-bound : Kept Entry SameBound
+abbrev same-bound : Preserved Entry SameBound
 same-bound = record {
   nought = none;
   add = plus;
@@ -57,4 +57,4 @@ module _ (job job′ : Job) (weights : List ℕ) (same-gap : gap (job .start) �
   pub bounds : Divisible job weights → job .law ≡ job′ .law → (x j : ℕ) → j < job .law .order
       → SameBound (curveRows job weights j x) (curveRows job′ weights j x)
   bounds h same-law x j l = subst (λ law. SameBound (curveRows job weights j x) (curveRows (second law) weights j x)) same-law
-      (all-kept same-bound job weights h (curveRows (second (job .law)) weights) second-follows x j l)
+      (all-preserved same-bound job weights (h .divisor-pos) (h .total-pos) (curveRows (second (job .law)) weights) second-follows x j l)

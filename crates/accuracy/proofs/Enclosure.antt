@@ -24,7 +24,7 @@ use Rattle.compound.specs.declared.Entry.{Entry}
 use Rattle.compound.specs.Entry.{none, plus, scaled, rounded}
 use Rattle.compound.specs.Curve.{factor, firstEntry, curveRows}
 use Rattle.accuracy.specs.Accuracy.{Divisible, frequency, severity, amount}
-use Rattle.accuracy.proofs.Kept.{Kept, Follows, all-kept}
+use Rattle.compound.proofs.Preserved.{Preserved, Follows, all-preserved}
 open OrderedRing order using (_⊑_)
 open Semiring ℚ using (carrier as A, 𝟘, _⊹_, _·_)
 
@@ -86,7 +86,7 @@ within-rounded d e s v l w q = record {
   above = cancel d _ _ l (rw (q, product) (order .le-trans (w .above) (int-mono order (ceil-is (e .high) d l .0))));
 }
 
-abbrev enclosing : Kept A Within
+abbrev enclosing : Preserved A Within
 enclosing = record {
   nought = 𝟘;
   add = _⊹_;
@@ -130,7 +130,7 @@ module _ (job : Job) (weights : List ℕ) (h : Divisible job weights) (p : Fract
 
   -- the rows 0 to k - 1
   enclosed : (x j : ℕ) → j < job .law .order → Within (curveRows job weights j x) (valueRow law table p j x)
-  enclosed = all-kept enclosing job weights h (valueRow law table p) exact-follows
+  enclosed = all-preserved enclosing job weights (h .divisor-pos) (h .total-pos) (valueRow law table p) exact-follows
 
   pub amount-enclosed : 0 < job .law .order → (x : ℕ) → Between (curveRows job weights 0 x) (amount job weights h p x)
   amount-enclosed l x = of-within (curveRows job weights 0 x) (amount job weights h p x) (rw value-amount (enclosed x 0 l))

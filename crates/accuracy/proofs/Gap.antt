@@ -13,7 +13,7 @@ use Rattle.compound.specs.declared.Entry.{Entry}
 use Rattle.compound.specs.Entry.{plus, scaled, allowance, rounded}
 use Rattle.compound.specs.Curve.{firstEntry, curveRows}
 use Rattle.accuracy.specs.Accuracy.{Divisible}
-use Rattle.accuracy.proofs.Kept.{Kept, all-kept}
+use Rattle.compound.proofs.Preserved.{Preserved, all-preserved}
 
 abbrev pub Narrow : Entry → Type 0
 Narrow e = (e .high -ℤ e .low) ≤ℤ e .bound
@@ -84,7 +84,7 @@ narrow-rounded d e l w = of-parts (rounded d e) (omega (arith, split-add bound (
     )
 
 -- ---- all entries; nothing stands beside them
-abbrev narrowing : Kept (Unit {0}) (λ e _. Narrow e)
+abbrev narrowing : Preserved (Unit {0}) (λ e _. Narrow e)
 narrowing = record {
   nought = tt;
   add = λ _ _. tt;
@@ -102,5 +102,5 @@ module _ (job : Job) (weights : List ℕ) where
   narrow-first (suc j) = ≤ℤ-refl (pos 0)
 
   pub narrow : Divisible job weights → (x j : ℕ) → j < job .law .order → Narrow (curveRows job weights j x)
-  narrow h = all-kept narrowing job weights h (λ _ _. tt)
+  narrow h = all-preserved narrowing job weights (h .divisor-pos) (h .total-pos) (λ _ _. tt)
       (record { first = λ j _. narrow-first j; row-zero = λ _ _. tt; row-next = λ _ _ _. tt })

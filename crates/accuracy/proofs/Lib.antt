@@ -1,5 +1,4 @@
 -- Bottom up: what a file cites stands above it.
-pub mod Kept
 pub mod Enclosure
 pub mod Gap
 pub mod Bounds

@@ -1,10 +1,11 @@
--- A test that passes at every row passes at any row, by the row's place in the table.
-use mathlib.Core.Path.{sym, subst}
+-- A test that passes at every row passes at any row, by the row's place in the table; tests of equality, by cases on what they compare.
+use mathlib.Core.Path.{refl, sym, ap, subst}
 use mathlib.Core.Bool.{Bool, true, false, _&&_}
 use mathlib.Core.List.{[], _∷_, List·Memᴰ·not-nil, List·Memᴰ·cases-cons}
 use mathlib.Core.Logic.{⊎-elim}
-use lib.Dec.{T}
-use Rattle.algebra.specs.Table.{every, EachPasses}
+use lib.Dec.{T, eqb→eq}
+use lib.IntN.{pos, negsuc}
+use Rattle.algebra.specs.Table.{every, EachPasses, SameInteger, sameList, SameList}
 
 pub and-left : (a b : Bool) → T (a && b) → T a
 and-left true b t = tt
@@ -20,3 +21,17 @@ each-passes A test (d ∷ ds) t c m = ⊎-elim
     (λ e. subst (λ x. T (test x)) (sym e) (and-left (test d) (every test ds) t))
     (λ k. each-passes A test ds (and-right (test d) (every test ds) t) c k)
     (List·Memᴰ·cases-cons m)
+
+pub same-integer : SameInteger
+same-integer (pos m) (pos n) t = ap pos (eqb→eq m n t)
+same-integer (pos m) (negsuc n) t = absurd t
+same-integer (negsuc m) (pos n) t = absurd t
+same-integer (negsuc m) (negsuc n) t = ap negsuc (eqb→eq m n t)
+
+pub same-list : (A : Type 0) → SameList A
+same-list A same equates [] [] t = refl
+same-list A same equates [] (y ∷ ys) t = absurd t
+same-list A same equates (x ∷ xs) [] t = absurd t
+same-list A same equates (x ∷ xs) (y ∷ ys) t =
+    λ i. equates x y (and-left (same x y) (sameList same xs ys) t) i
+    ∷ same-list A same equates xs ys (and-right (same x y) (sameList same xs ys) t) i

@@ -2,6 +2,8 @@
 pub mod Advanced
 pub mod Call
 pub mod Curve
+pub mod Filled
+pub mod Preserved
 pub mod Scaled
 pub mod Sizes
 pub mod Stored

@@ -1,6 +1,7 @@
 -- What the crate's own functions ask for and work on: the limits of a job that passed the checks, that every number on the way fits, and
 -- the rows as the lent rows hold them.
 use mathlib.Core.Path.{_≡_}
+use mathlib.Core.Bool.{true}
 use mathlib.Core.List.{List}
 use Prim.Native.Nat.{ℕ, zero, suc, _+_, _-_, _*_, _≤_, _<_, _^_, min}
 use lib.IntN.{ℤ, pos, natAbs, _+ℤ_, _-ℤ_, _*ℤ_}
@@ -11,12 +12,13 @@ use Rattle.algebra.specs.Sum.{accumulate}
 use Rattle.exact.specs.Severity.{totalWeight}
 use Rattle.model.specs.declared.Job.{Job}
 use Rattle.model.specs.declared.Law.{Law}
+use Rattle.model.specs.Answer.{isAccepted, firstOf}
 use Rattle.compound.specs.declared.Entry.{Entry}
 use Rattle.compound.specs.declared.term.Factor.{Factor}
 use Rattle.compound.specs.declared.fill.Faults.{Faults}
 use Rattle.compound.specs.Entry.{unit, plus, scaled, outOfRange, boundTooLarge}
-use Rattle.compound.specs.Curve.{Rows, entryAt}
-use Rattle.compound.specs.Call.{Lent, workPlaces, anyRow}
+use Rattle.compound.specs.Curve.{Rows, entryAt, curveRows}
+use Rattle.compound.specs.Call.{Lent, workPlaces, anyRow, faults}
 
 -- ---- a job that passed the checks
 -- what checks 1 to 3 leave of its law
@@ -177,3 +179,12 @@ pub record Advanced (job : Job) (weights : List ℕ) (places x n : ℕ) (lent₀
   pub work-kept : Kept (workPlaces places) (lent .work) (lent₀ .work)
   pub earlier : (j z : ℕ) → j < job .law .order → z < x → stored places lent j z ≡ stored places lent₀ j z
   pub entries : (j : ℕ) → j < n → stored places lent j x ≡ entryAt job weights (stored places lent₀) j x
+
+-- the lent rows after the run of the totals: later places keep what they held, and where no total has a fault row 0 is the curve
+pub record Filled (job : Job) (weights : List ℕ) (lent₀ lent : Lent) : Type 0 where
+  pub low-kept : Kept (job .last + 1) (lent .low) (lent₀ .low)
+  pub high-kept : Kept (job .last + 1) (lent .high) (lent₀ .high)
+  pub bound-kept : Kept (job .last + 1) (lent .bound) (lent₀ .bound)
+  pub work-kept : Kept (workPlaces (job .last + 1)) (lent .work) (lent₀ .work)
+  pub curve : isAccepted (firstOf (faults job weights)) ≡ true
+      → (z : ℕ) → z < job .last + 1 → entryOf (lent .low) (lent .high) (lent .bound) z ≡ curveRows job weights 0 z

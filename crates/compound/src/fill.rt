@@ -1,18 +1,26 @@
 // The rows, filled total by total up to the first total that has a fault.
 
+use super::check::total_weight;
 use super::rows::put;
 use super::rule::is_bound_too_large;
 use super::rule::is_out_of_range;
 use super::total::entry_at;
+use super::CurveAnswer;
 use super::Entry;
+use super::Reason;
 use model::Job;
 ghost use mathlib.Core.Path.{_≡_};
 ghost use mathlib.Core.Bool.{_||_};
+ghost use Prim.Native.Nat.{_+_, _≤_};
+ghost use lib.IntN.{pos};
+ghost use lib.ListN.{length, replicate};
+ghost use Rattle.algebra.specs.Slice.{written};
 ghost use Rattle.exact.specs.Severity.{totalWeight};
 ghost use Rattle.compound.specs.Entry.{outOfRange, boundTooLarge};
 ghost use Rattle.compound.specs.Curve.{entryAt};
-ghost use Rattle.compound.specs.Call.{lentRows};
-ghost use Rattle.compound.specs.Room.{Limits, Ready, stored, faultsBelow, Advanced};
+ghost use Rattle.model.specs.Answer.{firstOf};
+ghost use Rattle.compound.specs.Call.{lentRows, paper, faults};
+ghost use Rattle.compound.specs.Room.{Limits, LongEnough, Ready, stored, faultsBelow, Advanced, Filled};
 
 // What the rows of one total show: a low or high out of range, a bound too large.
 pub struct Faults {
@@ -62,4 +70,41 @@ fn fill_total(
         faults = with_entry(faults, entry);
     }
     faults
+}
+
+// The rows, filled from total 0 on, up to the last total or the first that has a fault.
+pub fn fill(
+    job: Job,
+    weights: &[u64],
+    low: &mut [i64],
+    high: &mut [i64],
+    bound: &mut [i64],
+    work: &mut [i64],
+) -> CurveAnswer
+    requires { ⌜ Limits job (now weights) × LongEnough (job .last + 1) (lentRows (now low) (now high) (now bound) (now work)) ⌝ }
+    ensures answer { λ r. ⌜ paper r ≡ firstOf (faults job (now (weights .entry))) ⌝ }
+    ensures rows { λ r. ⌜ Filled job (now (weights .entry)) (lentRows (now (low .entry)) (now (high .entry)) (now (bound .entry)) (now (work .entry))) (lentRows (now (low .exit)) (now (high .exit)) (now (bound .exit)) (now (work .exit))) ⌝ }
+{
+    let total = total_weight(weights);
+    let places = job.last as usize + 1;
+    for x in 0..places {
+        let found = fill_total(job, total, x, weights, low, high, bound, work, places);
+        if found.range {
+            return CurveAnswer::Refused(Reason::Range, x);
+        }
+        if found.bound {
+            return CurveAnswer::Refused(Reason::Bound, x);
+        }
+    }
+    CurveAnswer::Accepted
+}
+
+// Zeros in the first `n` places.
+pub fn clear(row: &mut [i64], n: usize)
+    requires { ⌜ n ≤ length (now row) ⌝ }
+    ensures { λ r. ⌜ now (row .exit) ≡ written (replicate n (pos 0)) (now (row .entry)) ⌝ }
+{
+    for i in 0..n {
+        row[i] = 0;
+    }
 }

@@ -1,20 +1,13 @@
 -- Every row of the table holds, by one test over the whole table that the checker computes from the definitions.
-use mathlib.Core.Path.{_≡_, ap}
-use lib.Dec.{T, eqb→eq}
-use lib.IntN.{ℤ, pos, negsuc, _*ℤ_}
+use lib.Dec.{T}
+use lib.IntN.{pos, _*ℤ_}
 use Rattle.algebra.specs.Sum.{accumulate}
-use Rattle.algebra.proofs.Table.{each-passes}
+use Rattle.algebra.proofs.Table.{each-passes, same-integer}
 use Rattle.algebra.specs.Fraction.{Fraction, over, whole, _⊕_, _⊗_, overSuc, oneTo, zeroTo, _≈_}
 use Rattle.exact.specs.Frequency.{a, b, withNext, countCoefficients, countCoefficient}
 use Rattle.exact.specs.Severity.{density, convolution}
 use Rattle.exact.specs.Amount.{exactAmount}
-use Rattle.exact.specs.Cases.{Case, cases, CasesHold, sameInteger, sameFraction, test}
-
-same-integer : (y z : ℤ) → T (sameInteger y z) → y ≡ z
-same-integer (pos m) (pos n) t = ap pos (eqb→eq m n t)
-same-integer (pos m) (negsuc n) t = absurd t
-same-integer (negsuc m) (pos n) t = absurd t
-same-integer (negsuc m) (negsuc n) t = ap negsuc (eqb→eq m n t)
+use Rattle.exact.specs.Cases.{Case, cases, CasesHold, sameFraction, test}
 
 same-fraction : (x y : Fraction) → T (sameFraction x y) → x ≈ y
 same-fraction x y t = record { across = same-integer (x .upper *ℤ pos (y .lower)) (y .upper *ℤ pos (x .lower)) t }

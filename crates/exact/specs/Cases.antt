@@ -1,11 +1,12 @@
 -- Exact amounts that were worked out apart from these definitions (calculator/, from the laws' closed forms), as rows of one table.
-use mathlib.Core.Bool.{Bool, false}
+use mathlib.Core.Bool.{Bool}
 use mathlib.Core.List.{List, [], _∷_, List·Memᴰ}
 use Prim.Native.Nat.{ℕ, _-_, _≤_}
-use lib.Dec.{eqb, lit≤}
+use lib.Dec.{lit≤}
 use lib.IntN.{ℤ, pos, negsuc, _*ℤ_}
 use lib.ListN.{getD}
 use Rattle.algebra.specs.Fraction.{Fraction, over, whole, _≈_}
+use Rattle.algebra.specs.Table.{sameInteger}
 use Rattle.exact.specs.Frequency.{Frequency}
 use Rattle.exact.specs.Severity.{Severity, totalWeight}
 use Rattle.exact.specs.Amount.{exactAmount}
@@ -99,12 +100,6 @@ abbrev pub CasesHold : Type 0
 CasesHold = (c : Case) → List·Memᴰ c cases → Holds c
 
 -- ---- the test that the checker computes
-abbrev pub sameInteger : ℤ → ℤ → Bool
-sameInteger (pos m) (pos n) = eqb m n
-sameInteger (pos m) (negsuc n) = false
-sameInteger (negsuc m) (pos n) = false
-sameInteger (negsuc m) (negsuc n) = eqb m n
-
 abbrev pub sameFraction : Fraction → Fraction → Bool
 sameFraction x y = sameInteger (x .upper *ℤ pos (y .lower)) (y .upper *ℤ pos (x .lower))
 

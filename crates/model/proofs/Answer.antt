@@ -10,6 +10,10 @@ use Rattle.algebra.specs.Table.{every}
 use Rattle.algebra.proofs.Table.{and-left, and-right}
 use Rattle.model.specs.Answer.{Answer, Condition, accepted, refused, isAccepted, condition, firstOf}
 
+pub first-none : firstOf [] ≡ accepted
+unfolding firstOf
+first-none = refl
+
 -- the first condition of a list, where it holds and where it does not
 pub first-holds : (c : Condition) (rest : List Condition) → c .holds ≡ true → firstOf (c ∷ rest) ≡ refused (c .number) (c .place)
 unfolding firstOf

@@ -7,7 +7,7 @@ use Prim.Native.Nat.{ℕ}
 use lib.ListN.{drop}
 use Rattle.exact.specs.Severity.{totalWeight}
 use Rattle.model.specs.Answer.{Condition, firstOf}
-use Rattle.model.proofs.Answer.{first-holds, first-fails}
+use Rattle.model.proofs.Answer.{first-none, first-holds, first-fails}
 use Rattle.compound.specs.Call.{outside, checks}
 use Rattle.compound.proofs.Tests.{capped-outside}
 use Rattle.compound.proofs.check.check.Statement.{statement}
@@ -91,8 +91,7 @@ returns-8 : tie.Need-returns-8
 returns-8 c = sym (left-7 (c .before .before) ∙ first-holds _ _ (sym (c .before .is-too-short .ensures) ∙ c .if8 .taken))
 
 returns-9 : tie.Need-returns-9
-unfolding firstOf
-returns-9 c = sym (left-7 (c .before .before) ∙ first-fails _ [] (sym (c .before .is-too-short .ensures) ∙ c .if8 .left))
+returns-9 c = sym (left-7 (c .before .before) ∙ first-fails _ [] (sym (c .before .is-too-short .ensures) ∙ c .if8 .left) ∙ first-none)
 
 pub check-spec : {M : Type 1} → statement M
 check-spec =

@@ -1,0 +1,132 @@
+"""Sets the curve calls in crates/cases/specs/Cases.antt beside those of outward.py, and their lows and highs beside the exact amounts of
+exact.py. Every row must be known here, and agree."""
+import pathlib
+import re
+import sys
+from fractions import Fraction
+from typing import NamedTuple
+
+import exact
+from outward import Job, Lent, curve
+
+MARK = 7
+
+
+class Row(NamedTuple):
+    job: Job
+    answer: tuple
+    after: Lent
+
+
+def law(k, D, A, B):
+    return k, D, *(terms + [0] * (4 - len(terms)) for terms in (A, B))
+
+
+def lent_for(X):
+    return Lent(*([MARK] * (X + 3) for _ in range(3)), [MARK] * (9 * (X + 1) + 1))
+
+
+def holding(low, high, bound):
+    return lambda X: Lent(*(row + [MARK] * 2 for row in (low, high, bound)), [0] * (9 * (X + 1)) + [MARK])
+
+
+def cleared(X):
+    return holding(*([0] * (X + 1) for _ in range(3)))(X)
+
+
+# the words of the table, besides the names that the file defines without parameters
+WORDS = {
+    "pos": lambda n: n,
+    "negℤ": lambda n: -n,
+    "map": lambda f, values: [f(value) for value in values],
+    "law": law,
+    "start": lambda s, t: (s, t),
+    "accepted": (0, 0),
+    "refused": lambda number, place: (number, place),
+    "untouched": lent_for,
+    "holding": holding,
+    "cleared": cleared,
+    "row": lambda law, start, X, weights, answer, after: Row(Job(*law, *start, weights, X), answer, after(X)),
+}
+
+
+def definitions(text):
+    """The tokens of each definition without parameters."""
+    text = re.sub(r"^ *--.*\n", "", text, flags=re.MULTILINE)
+    found = re.findall(r"^(\w+) =(.*\n(?:    .*\n)*)", text, flags=re.MULTILINE)
+    return {name: re.findall(r"[()]|\w+|[^\s\w()]+", body) for name, body in found}
+
+
+def read(tokens, defined):
+    """Takes an expression off the front of the tokens: a number, a word with its arguments, or a list of these."""
+    parts = []
+    while tokens and tokens[0] not in (")", "∷"):
+        token = tokens.pop(0)
+        if token == "(":
+            parts.append(read(tokens, defined))
+            tokens.pop(0)
+        elif token == "[]":
+            parts.append([])
+        elif token.isdigit():
+            parts.append(int(token))
+        else:
+            parts.append(WORDS[token] if token in WORDS else read(list(defined[token]), defined))
+    head, *arguments = parts
+    found = head(*arguments) if arguments else head
+    if tokens and tokens[0] == "∷":
+        tokens.pop(0)
+        return [found] + read(tokens, defined)
+    return found
+
+
+def table():
+    source = pathlib.Path(__file__).parent.parent / "crates/cases/specs/Cases.antt"
+    try:
+        defined = definitions(source.read_text())
+        return read(defined["cases"], defined)
+    except (KeyError, IndexError, TypeError, ValueError) as error:
+        sys.exit(f"a row cannot be read: {source}: {error!r}")
+
+
+def differences(row):
+    lent = lent_for(row.job.last)
+    answer = curve(row.job, lent)
+    if answer != row.answer:
+        yield f"the table has {row.answer}, the calculator {answer}"
+    for name in ("low", "high", "bound", "work"):
+        stated, found = getattr(row.after, name), getattr(lent, name)
+        if stated != found:
+            yield f"{name}: the table has {stated}, the calculator {found}"
+
+
+def outside(row):
+    """Exact amounts outside low to high, for both starts and one between; and gaps above their bound."""
+    job, answer, after = row
+    if answer != (0, 0):
+        return
+    count = exact.by_terms(job.divisor, job.a[:job.order], job.b[:job.order])
+    for x in range(job.last + 1):
+        low, high, bound = after.low[x], after.high[x], after.bound[x]
+        if high - low > bound:
+            yield f"at {x}: {low} to {high} is wider than {bound}"
+        for start in (job.low_start, Fraction(job.low_start + job.high_start, 2), job.high_start):
+            amount = exact.amount(count, job.weights, start, x)
+            if not low <= amount <= high:
+                yield f"at {x}: the exact amount {amount} for the start {start} is not from {low} to {high}"
+
+
+def main():
+    rows = table()
+    wrong = 0
+    for number, row in enumerate(rows, 1):
+        faults = list(differences(row)) or list(outside(row))
+        wrong += bool(faults)
+        for fault in faults:
+            print(f"row {number}: {fault}")
+    accepted = sum(row.answer == (0, 0) for row in rows)
+    print(f"curve calls: {len(rows)} rows set beside the calculator, {accepted} of them with exact amounts, {wrong} differ")
+    if wrong or len(rows) < 10:
+        sys.exit(1)
+
+
+main()

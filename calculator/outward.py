@@ -1,0 +1,117 @@
+"""The outward rule and the curve call, read from the paper alone, in Python's whole numbers."""
+from dataclasses import dataclass
+
+UNIT = 1_000_000_000
+
+
+@dataclass
+class Job:
+    """k, D, A_1..A_4, B_1..B_4, s, t, the weights w(1)..w(m) and X."""
+    order: int
+    divisor: int
+    a: list
+    b: list
+    low_start: int
+    high_start: int
+    weights: list
+    last: int
+
+
+@dataclass
+class Lent:
+    """The rows that a call is lent; it writes into them."""
+    low: list
+    high: list
+    bound: list
+    work: list
+
+
+def down(n, d):
+    """Divided and rounded towards minus infinity, which is what // does."""
+    return n // d
+
+
+def up(n, d):
+    return -((-n) // d)
+
+
+def first_entries(job):
+    """The entries (low, high, bound) of rows 0 to k-1 at total 0."""
+    start = (job.low_start, job.high_start, job.high_start - job.low_start)
+    return [start] + [(0, 0, 0)] * (job.order - 1)
+
+
+def outward(products, divisor):
+    """One entry from pairs of a factor and an entry."""
+    low_sum = sum(factor * (low if factor >= 0 else high) for factor, (low, high, _) in products)
+    high_sum = sum(factor * (high if factor >= 0 else low) for factor, (low, high, _) in products)
+    bound_sum = sum(abs(factor) * bound for factor, (_, _, bound) in products)
+    return down(low_sum, divisor), up(high_sum, divisor), up(bound_sum, divisor) + 1
+
+
+def next_entries(job, earlier):
+    """The entries of rows 0 to k-1 at the next total x, from those at the totals 0 to x-1."""
+    x = len(earlier)
+    whole = sum(job.weights)
+    reached = list(enumerate(job.weights, 1))[:x]
+    curve = [((job.a[i] * x + job.b[i] * y) * w, earlier[x - y][i]) for i in range(job.order) for y, w in reached]
+    entries = [outward(curve, job.divisor * x * whole)]
+    for j in range(1, job.order):
+        entries.append(outward([(w, earlier[x - y][j - 1]) for y, w in reached], whole))
+    return entries
+
+
+def first_check(job, lent):
+    """Refusals 1 to 8, or None."""
+    if not 1 <= job.order <= 4:
+        return 1, 0
+    if not 1 <= job.divisor <= 1000:
+        return 2, 0
+    for i in range(4):
+        limit = 1000 if i < job.order else 0
+        if abs(job.a[i]) > limit or abs(job.b[i]) > limit:
+            return 3, i + 1
+    if not (0 <= job.low_start <= job.high_start <= UNIT and job.high_start >= 1):
+        return 4, 0
+    if not 1 <= len(job.weights) <= 500:
+        return 5, 0
+    if not 1 <= sum(job.weights) <= 1000:
+        return 6, 0
+    if not 0 <= job.last <= 500:
+        return 7, 0
+    places = job.last + 1
+    if min(len(lent.low), len(lent.high), len(lent.bound)) < places or len(lent.work) < 9 * places:
+        return 8, 0
+    return None
+
+
+def fault(entries, x):
+    """Refusal 9 or 10 at total x, or None."""
+    if any(abs(end) > 2 * UNIT for low, high, _ in entries for end in (low, high)):
+        return 9, x
+    if any(bound > UNIT for _, _, bound in entries):
+        return 10, x
+    return None
+
+
+def run(job):
+    """What follows the checks: refusal 9 or 10 or None, and row 0 from total 0 to X, which is all 0 after a refusal."""
+    totals = []
+    for x in range(job.last + 1):
+        totals.append(next_entries(job, totals) if totals else first_entries(job))
+        refusal = fault(totals[x], x)
+        if refusal:
+            return refusal, [(0, 0, 0)] * (job.last + 1)
+    return None, [entries[0] for entries in totals]
+
+
+def curve(job, lent):
+    """The call: its answer as number and place, (0, 0) for an acceptance. It writes into the lent rows."""
+    refusal = first_check(job, lent)
+    if refusal:
+        return refusal
+    refusal, row = run(job)
+    places = job.last + 1
+    lent.low[:places], lent.high[:places], lent.bound[:places] = map(list, zip(*row))
+    lent.work[:9 * places] = [0] * (9 * places)
+    return refusal or (0, 0)

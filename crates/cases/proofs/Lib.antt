@@ -1,0 +1,2 @@
+-- The one claim over the table.
+pub mod Cases

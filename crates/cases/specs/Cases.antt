@@ -1,0 +1,141 @@
+-- "Cases on each limit", as rows of one table: P1 to P8, and two more of the paper's curve calls. The numbers are the paper's; what it does
+-- not print follows from its rule, and calculator/check_curve_cases.py works every row out apart from these definitions.
+use mathlib.Core.Path.{_≡_}
+use mathlib.Core.Bool.{Bool, _&&_}
+use mathlib.Core.List.{List, [], _∷_, _++_, map, List·Memᴰ}
+use Prim.Native.Nat.{ℕ, _+_, _-_, _*_}
+use lib.Dec.{eqb}
+use lib.IntN.{ℤ, pos, negℤ}
+use lib.ListN.{length, replicate}
+use Rattle.algebra.specs.Table.{sameInteger, sameList}
+use Rattle.model.specs.declared.Law.{Law}
+use Rattle.model.specs.declared.Start.{Start}
+use Rattle.model.specs.declared.Job.{Job}
+use Rattle.model.specs.Answer.{Answer, accepted, refused}
+use Rattle.compound.specs.Call.{Lent, lentRows, curveAnswer, curveLent}
+
+-- a call of the tool and what the paper says of it
+pub data Case : Type 0 where
+  -- the job and its weights, the lent rows at entry, the answer, the lent rows on return
+  curve : Job → List ℕ → Lent → Answer → Lent → Case
+
+-- what a row claims
+abbrev pub Holds : Case → Type 0
+Holds (curve job weights lent answer after) = (curveAnswer job weights lent ≡ answer) × (curveLent job weights lent ≡ after)
+
+-- ---- jobs
+-- terms that are not written are zero
+abbrev padded : List ℤ → List ℤ
+padded terms = terms ++ replicate (4 - length terms) (pos 0)
+
+-- k, D, A_1, .. and B_1, ..
+abbrev law : (k D : ℕ) (A B : List ℤ) → Law
+law k D A B = record { order = k; divisor = D; a = padded A; b = padded B }
+
+-- s and t
+abbrev start : (s t : ℕ) → Start
+start s t = record { low = s; high = t }
+
+-- ---- lent rows
+-- what every place holds at entry, so that it shows which ones the call writes
+abbrev marks : ℕ → List ℤ
+marks n = replicate n (pos 7)
+
+-- the rows have two places more than the call asks for, the work row one
+abbrev lentFor : (X : ℕ) → Lent
+lentFor X = lentRows (marks (X + 3)) (marks (X + 3)) (marks (X + 3)) (marks (9 * (X + 1) + 1))
+
+-- on return, by X: "These write nothing."
+abbrev untouched : (X : ℕ) → Lent
+untouched X = lentFor X
+
+-- the three rows hold numbers in front of their two marks, and the work row 0 in front of its one
+abbrev holding : (low high bound : List ℤ) (X : ℕ) → Lent
+holding low high bound X = lentRows (low ++ marks 2) (high ++ marks 2) (bound ++ marks 2) (replicate (9 * (X + 1)) (pos 0) ++ marks 1)
+
+-- "the first X+1 places of the three rows are 0"
+abbrev cleared : (X : ℕ) → Lent
+cleared X = holding (replicate (X + 1) (pos 0)) (replicate (X + 1) (pos 0)) (replicate (X + 1) (pos 0)) X
+
+-- ---- the table of cases
+abbrev row : (law : Law) (start : Start) (X : ℕ) (weights : List ℕ) (answer : Answer) (after : ℕ → Lent) → Case
+row law start X weights answer after = curve (record { law = law; start = start; last = X }) weights (lentFor X) answer (after X)
+
+-- P1, as the program writes it
+abbrev rowsP1 : (X : ℕ) → Lent
+rowsP1 = holding
+    (map pos (367879441 ∷ 183939720 ∷ 229924650 ∷ 99634015 ∷ []))
+    (map pos (367879442 ∷ 183939721 ∷ 229924652 ∷ 99634016 ∷ []))
+    (map pos (1 ∷ 2 ∷ 2 ∷ 2 ∷ []))
+
+-- P2: "k 1, D 1, A -1, B 3, start 250000000 twice"
+abbrev lawP2 : Law
+lawP2 = law 1 1 (negℤ (pos 1) ∷ []) (pos 3 ∷ [])
+
+abbrev startP2 : Start
+startP2 = start 250000000 250000000
+
+-- "Lows and highs 250000000, 500000000, 250000000, 0, 0; bounds 0, 1, 2, 1, 2."
+abbrev rowsP2 : (X : ℕ) → Lent
+rowsP2 = holding
+    (map pos (250000000 ∷ 500000000 ∷ 250000000 ∷ 0 ∷ 0 ∷ []))
+    (map pos (250000000 ∷ 500000000 ∷ 250000000 ∷ 0 ∷ 0 ∷ []))
+    (map pos (0 ∷ 1 ∷ 2 ∷ 1 ∷ 2 ∷ []))
+
+abbrev pub cases : List Case
+cases =
+    -- P1: "the job above", that of the sheet
+    row (law 1 1 (pos 0 ∷ []) (pos 1 ∷ [])) (start 367879441 367879442) 3 (1 ∷ 1 ∷ []) accepted rowsP1
+    -- P2: "X 4"
+    ∷ row lawP2 startP2 4 (1 ∷ []) accepted rowsP2
+    -- P3: "At 1: low -1, high 0, bound 2."
+    ∷ row (law 1 2 (negℤ (pos 1) ∷ []) (pos 0 ∷ [])) (start 1 2) 1 (1 ∷ []) accepted
+    (holding (pos 1 ∷ negℤ (pos 1) ∷ []) (pos 2 ∷ pos 0 ∷ []) (pos 1 ∷ pos 2 ∷ []))
+    -- "P3 with start 1 twice": "The rule gives low -1, high 0, bound 1."
+    ∷ row (law 1 2 (negℤ (pos 1) ∷ []) (pos 0 ∷ [])) (start 1 1) 1 (1 ∷ []) accepted
+    (holding (pos 1 ∷ negℤ (pos 1) ∷ []) (pos 1 ∷ pos 0 ∷ []) (pos 0 ∷ pos 1 ∷ []))
+    -- P4: "At 1: 0, 0, bound 1. At 2: 200000000, 200000001, bound 2."
+    ∷ row (law 2 1 (pos 0 ∷ pos 0 ∷ []) (pos 0 ∷ pos 1 ∷ [])) (start 400000001 400000001) 2 (1 ∷ []) accepted
+    (holding (map pos (400000001 ∷ 0 ∷ 200000000 ∷ [])) (map pos (400000001 ∷ 0 ∷ 200000001 ∷ [])) (map pos (0 ∷ 1 ∷ 2 ∷ [])))
+    -- P5: "refusal 9 at 1"
+    ∷ row (law 1 1 (pos 0 ∷ []) (pos 3 ∷ [])) (start 1000000000 1000000000) 1 (1 ∷ []) (refused 9 1) cleared
+    -- "With B 2: accepted, 2U."
+    ∷ row (law 1 1 (pos 0 ∷ []) (pos 2 ∷ [])) (start 1000000000 1000000000) 1 (1 ∷ []) accepted
+    (holding (map pos (1000000000 ∷ 2000000000 ∷ [])) (map pos (1000000000 ∷ 2000000000 ∷ [])) (map pos (0 ∷ 1 ∷ [])))
+    -- P6: "refusal 10 at 1"
+    ∷ row (law 1 1 (pos 0 ∷ []) (pos 1 ∷ [])) (start 0 1000000000) 1 (1 ∷ []) (refused 10 1) cleared
+    -- "With X 0: accepted."
+    ∷ row (law 1 1 (pos 0 ∷ []) (pos 1 ∷ [])) (start 0 1000000000) 0 (1 ∷ []) accepted
+    (holding (map pos (0 ∷ [])) (map pos (1000000000 ∷ [])) (map pos (1000000000 ∷ [])))
+    -- P7: "P2 with w(1) 1,000 is accepted; with 1,001 it gives 6."
+    ∷ row lawP2 startP2 4 (1000 ∷ []) accepted rowsP2
+    ∷ row lawP2 startP2 4 (1001 ∷ []) (refused 6 0) untouched
+    -- P8: "P2 with X 501 gives 7."
+    ∷ row lawP2 startP2 501 (1 ∷ []) (refused 7 0) untouched
+    -- "k 5 gives 1 at the curve"
+    ∷ row (law 5 1 (negℤ (pos 1) ∷ []) (pos 3 ∷ [])) startP2 4 (1 ∷ []) (refused 1 0) untouched
+    ∷ []
+
+-- the one claim
+abbrev pub CasesHold : Type 0
+CasesHold = (c : Case) → List·Memᴰ c cases → Holds c
+
+-- ---- the test that the checker computes
+abbrev pub numbers : Answer → List ℕ
+numbers answer = answer .number ∷ answer .place ∷ []
+
+abbrev pub sameAnswer : Answer → Answer → Bool
+sameAnswer x y = sameList eqb (numbers x) (numbers y)
+
+abbrev pub sameRow : List ℤ → List ℤ → Bool
+sameRow = sameList sameInteger
+
+abbrev pub rows : Lent → List (List ℤ)
+rows lent = lent .low ∷ lent .high ∷ lent .bound ∷ lent .work ∷ []
+
+abbrev pub sameLent : Lent → Lent → Bool
+sameLent x y = sameList sameRow (rows x) (rows y)
+
+abbrev pub test : Case → Bool
+test (curve job weights lent answer after) =
+    sameAnswer (curveAnswer job weights lent) answer && sameLent (curveLent job weights lent) after

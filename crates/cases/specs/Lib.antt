@@ -1,0 +1,2 @@
+-- The paper's cases that are marked for proof.
+pub mod Cases

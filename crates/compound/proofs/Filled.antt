@@ -1,0 +1,233 @@
+-- Total by total: below the total that is reached the rows hold the curve, and no entry there has a fault, so the next total can be
+-- computed; at the first fault, or at the end, the answer is that of the definition.
+use mathlib.Core.Path.{_≡_, refl, sym, ap, _∙_, subst}
+use mathlib.Core.Bool.{Bool, true, false, _&&_, _||_, true≢false}
+use mathlib.Core.List.{List, []}
+use mathlib.Core.Logic.{_⊎_, inl, inr}
+use Prim.Native.Nat.{ℕ, zero, suc, _+_, _-_, _*_, _≤_, _<_}
+use native.Mathlib.Nat as NL
+use native.Mathlib.Omega.{arith}
+use borrow.Author.Tests.{ltb-false, lt-ltb, le-ltb}
+use lib.Dec.{ltb, lit≤}
+use lib.IntN.{ℤ, pos, negsuc, natAbs, _+ℤ_, _-ℤ_, _*ℤ_, negℤ}
+use lib.Signed.{ltZ, _≤ℤ_}
+use lib.ListN.{length, drop}
+use lib.Seq.{drop-drop}
+use Rattle.algebra.specs.Smallest.{smallest, FailBelow}
+use Rattle.algebra.specs.Sum.{accumulate}
+use Rattle.algebra.proofs.Integer.{signed, split-add, split-neg, *ℤ-nonneg}
+use Rattle.algebra.proofs.Smallest.{smallest-is}
+use Rattle.algebra.proofs.Sum.{accumulate-cong}
+use Rattle.outward.specs.Division.{ceilDiv}
+use Rattle.outward.proofs.Division.{ceil-nonneg}
+use Rattle.model.specs.declared.Job.{Job}
+use Rattle.model.specs.Answer.{accepted, refused, isAccepted, firstOf}
+use Rattle.model.proofs.Answer.{first-none, first-holds, first-fails}
+use Rattle.compound.specs.declared.Entry.{Entry}
+use Rattle.compound.specs.Entry.{unit, plus, scaled, rounded, outOfRange, boundTooLarge}
+use Rattle.compound.specs.Curve.{Rows, firstEntry, entryAt, curveRows}
+use Rattle.compound.specs.Call.{Lent, workPlaces, anyRow, faultAt, firstFault, faults}
+use Rattle.compound.specs.Room.{Limits, LongEnough, Ready, Small, stored, faultsBelow, Kept, Advanced, Filled}
+use Rattle.compound.proofs.Advanced.{kept-all, same-faults}
+use Rattle.compound.proofs.Call.{or-left, or-right}
+use Rattle.compound.proofs.Curve.{curve-rule, entry-local}
+use Rattle.compound.proofs.Preserved.{Preserved, all-preserved}
+
+-- ---- bounds are zero or more
+abbrev Nonneg : Entry → Type 0
+Nonneg e = pos 0 ≤ℤ e .bound
+
+nonneg-plus : (d e : Entry) → Nonneg d → Nonneg e → Nonneg (plus d e)
+nonneg-plus d e p q = omega (signed, split-add (d .bound) (e .bound))
+
+nonneg-scaled : (z : ℤ) (e : Entry) → Nonneg e → Nonneg (scaled z e)
+unfolding scaled
+nonneg-scaled z e p = *ℤ-nonneg (pos (natAbs z)) (e .bound) (omega signed) p
+
+nonneg-rounded : (d : ℕ) (e : Entry) → Nonneg e → Nonneg (rounded d e)
+unfolding rounded
+nonneg-rounded d e p = omega (signed, ceil-nonneg (e .bound) d p, split-add (ceilDiv (e .bound) d) (pos 1))
+
+abbrev nonneg : Preserved (Unit {0}) (λ e _. Nonneg e)
+nonneg = record {
+  nought = tt;
+  add = λ _ _. tt;
+  times = λ _ _. tt;
+  Divided = λ _ _ _. Unit {0};
+  by-none = omega signed;
+  by-plus = λ d e _ _ p q. nonneg-plus d e p q;
+  by-scaled = λ z e _ p. nonneg-scaled z e p;
+  by-rounded = λ d e _ _ _ p _. nonneg-rounded d e p;
+}
+
+-- ---- tests over rows
+any-none : (n : ℕ) (f : ℕ → Bool) → accumulate false _||_ n f ≡ false → (j : ℕ) → j < n → f j ≡ false
+unfolding accumulate
+any-none zero f e j l = absurd (NL.not-suc-le-zero l)
+any-none (suc n) f e j l = by (any-none n f (or-left (accumulate false _||_ n f) (f n) e) j) (NL.eq-or-lt-of-le (NL.le-of-suc-le-suc l))
+  where
+    by : (j < n → f j ≡ false) → (j ≡ n) ⊎ (j < n) → f j ≡ false
+    by earlier (inl p) = ap f p ∙ or-right (accumulate false _||_ n f) (f n) e
+    by earlier (inr k) = earlier k
+
+-- a number that is zero or more and not above the limit
+size-most : (z : ℤ) (limit : ℕ) → pos 0 ≤ℤ z → ltZ (pos limit) z ≡ false → natAbs z ≤ limit
+size-most (pos n) limit p e = ltb-false limit n e
+size-most (negsuc n) limit p e = absurd (p .le)
+
+-- ---- rows that are written
+kept-further : (m n : ℕ) (row row₀ : List ℤ) → m ≤ n → Kept m row row₀ → Kept n row row₀
+kept-further m n row row₀ h k = record {
+  same-length = k .same-length;
+  later = further row ∙ ap (drop (n - m)) (k .later) ∙ sym (further row₀);
+}
+  where
+    apart : n ≡ m + (n - m)
+    apart = omega arith
+
+    further : (row : List ℤ) → drop n row ≡ drop (n - m) (drop m row)
+    further row = ap (λ (i : ℕ). drop i row) apart ∙ sym (drop-drop (n - m) m row)
+
+kept-trans : (n : ℕ) (row row₁ row₀ : List ℤ) → Kept n row row₁ → Kept n row₁ row₀ → Kept n row row₀
+kept-trans n row row₁ row₀ p q = record { same-length = p .same-length ∙ q .same-length; later = p .later ∙ q .later }
+
+-- ---- what is known where total x is reached: below it the rows hold the curve, without a fault
+pub record Reached (job : Job) (weights : List ℕ) (lent₀ : Lent) (x : ℕ) (lent : Lent) : Type 0 where
+  pub low-kept : Kept x (lent .low) (lent₀ .low)
+  pub high-kept : Kept x (lent .high) (lent₀ .high)
+  pub bound-kept : Kept x (lent .bound) (lent₀ .bound)
+  pub work-kept : Kept (workPlaces (job .last + 1)) (lent .work) (lent₀ .work)
+  pub entries : (j z : ℕ) → j < job .law .order → z < x → stored (job .last + 1) lent j z ≡ curveRows job weights j z
+  pub sound : FailBelow (faultAt (job .law .order) (curveRows job weights)) x
+
+module _ (job : Job) (weights : List ℕ) (limits : Limits job weights) where
+  abbrev order : ℕ
+  order = job .law .order
+
+  abbrev curve : Rows
+  curve = curveRows job weights
+
+  abbrev places : ℕ
+  places = job .last + 1
+
+  first-nonneg : (j : ℕ) → Nonneg (firstEntry (job .start) j)
+  first-nonneg zero = omega (
+    signed,
+    limits .start-order,
+    split-add (pos (job .start .high)) (negℤ (pos (job .start .low))),
+    split-neg (pos (job .start .low)),
+  )
+  first-nonneg (suc j) = omega signed
+
+  bound-nonneg : (x j : ℕ) → j < order → Nonneg (curve j x)
+  bound-nonneg = all-preserved nonneg job weights (limits .law .divisor-least) (limits .table .weights-least) (λ _ _. tt)
+      (record { first = λ j _. first-nonneg j; row-zero = λ _ _. tt; row-next = λ _ _ _. tt })
+
+  small : (j z : ℕ) → j < order → faultAt order curve z ≡ false → Small (curve j z)
+  small j z l e =
+      let in-range = any-none order (λ j. outOfRange (curve j z)) (or-left (anyRow outOfRange order curve z) _ e) j l in
+      let bounded = any-none order (λ j. boundTooLarge (curve j z)) (or-right (anyRow outOfRange order curve z) _ e) j l in
+      record {
+        low = ltb-false (2 * unit) (natAbs (curve j z .low)) (or-left _ (ltb (2 * unit) (natAbs (curve j z .high))) in-range);
+        high = ltb-false (2 * unit) (natAbs (curve j z .high)) (or-right (ltb (2 * unit) (natAbs (curve j z .low))) _ in-range);
+        bound = size-most (curve j z .bound) unit (bound-nonneg z j l) bounded;
+      }
+
+  -- ---- the answer
+  first-is : (x : ℕ) → x ≤ places → FailBelow (faultAt order curve) x → (x < places → faultAt order curve x ≡ true)
+      → firstFault job weights ≡ x
+  unfolding firstFault
+  first-is x h below at = smallest-is (faultAt order curve) places x h below at
+
+  module _ (x : ℕ) (h : x < places) (below : FailBelow (faultAt order curve) x) where
+    pub found-range : anyRow outOfRange order curve x ≡ true → firstOf (faults job weights) ≡ refused 9 x
+    found-range e =
+        let at = first-is x (omega arith) below (λ _. rw e) in
+        first-holds _ _ (rw (at, lt-ltb x places h) e) ∙ ap (refused 9) at
+
+    pub found-bound : anyRow outOfRange order curve x ≡ false → anyRow boundTooLarge order curve x ≡ true
+        → firstOf (faults job weights) ≡ refused 10 x
+    found-bound e f =
+        let at = first-is x (omega arith) below (λ _. rw e f) in
+        first-fails _ _ (rw (at, lt-ltb x places h) e) ∙ first-holds _ _ (rw at (lt-ltb x places h)) ∙ ap (refused 10) at
+
+  pub found-none : FailBelow (faultAt order curve) places → firstOf (faults job weights) ≡ accepted
+  found-none below =
+      let at = first-is places (NL.le-refl places) below (λ l. absurd (NL.lt-irrefl places l)) in
+      let past : ltb (firstFault job weights) places ≡ false = rw at (le-ltb places places (NL.le-refl places)) in
+      first-fails _ _ (rw past) ∙ first-fails _ [] past ∙ first-none
+
+  -- ---- total by total
+  pub reached-first : (lent₀ : Lent) → Reached job weights lent₀ 0 lent₀
+  reached-first lent₀ = record {
+    low-kept = kept-all 0 (lent₀ .low);
+    high-kept = kept-all 0 (lent₀ .high);
+    bound-kept = kept-all 0 (lent₀ .bound);
+    work-kept = kept-all (workPlaces places) (lent₀ .work);
+    entries = λ j z h l. absurd (NL.not-suc-le-zero l);
+    sound = λ z l. absurd (NL.not-suc-le-zero l);
+  }
+
+  module _ (lent₀ : Lent) (long : LongEnough places lent₀) (x : ℕ) (lent : Lent) (here : Reached job weights lent₀ x lent) where
+    pub reached-ready : x < places → Ready (job .law) weights places x lent
+    reached-ready h = record {
+      law-limits = limits .law;
+      table-limits = limits .table;
+      long = record {
+        low-long = rw (here .low-kept .same-length) (long .low-long);
+        high-long = rw (here .high-kept .same-length) (long .high-long);
+        bound-long = rw (here .bound-kept .same-length) (long .bound-long);
+        work-long = rw (here .work-kept .same-length) (long .work-long);
+      };
+      places-most = omega (arith, limits .last-most);
+      total-below = h;
+      earlier = λ j z k l. subst Small (sym (here .entries j z k l)) (small j z k (here .sound z l));
+    }
+
+    -- the rule makes the curve of the rows
+    rule-curve : (j : ℕ) → j < order → entryAt job weights (stored places lent) j x ≡ curve j x
+    rule-curve j h = entry-local job weights (stored places lent) curve j x h (here .entries) ∙ sym (curve-rule job weights j x h)
+
+    pub faults-curve : faultsBelow order (entryAt job weights (stored places lent)) x ≡ faultsBelow order curve x
+    faults-curve = same-faults (accumulate-cong false _||_ order (λ j l. ap outOfRange (rule-curve j l)))
+        (accumulate-cong false _||_ order (λ j l. ap boundTooLarge (rule-curve j l)))
+
+    module _ (lent′ : Lent) (step : Advanced job weights places x order lent lent′) where
+      -- one total more, where it has no fault
+      pub reached-next : faultAt order curve x ≡ false → Reached job weights lent₀ (x + 1) lent′
+      reached-next e = record {
+        low-kept = kept-trans (x + 1) _ _ _ (step .low-kept) (kept-further x (x + 1) _ _ (omega arith) (here .low-kept));
+        high-kept = kept-trans (x + 1) _ _ _ (step .high-kept) (kept-further x (x + 1) _ _ (omega arith) (here .high-kept));
+        bound-kept = kept-trans (x + 1) _ _ _ (step .bound-kept) (kept-further x (x + 1) _ _ (omega arith) (here .bound-kept));
+        work-kept = kept-trans (workPlaces places) _ _ _ (step .work-kept) (here .work-kept);
+        entries = λ j z h l. entry j z h (NL.eq-or-lt-of-le (omega arith));
+        sound = λ z l. passes z (NL.eq-or-lt-of-le (omega arith));
+      }
+        where
+          entry : (j z : ℕ) → j < order → (z ≡ x) ⊎ (z < x) → stored places lent′ j z ≡ curve j z
+          entry j z h (inl p) = subst (λ (k : ℕ). stored places lent′ j k ≡ curve j k) (sym p) (step .entries j h ∙ rule-curve j h)
+          entry j z h (inr l) = step .earlier j z h l ∙ here .entries j z h l
+
+          passes : (z : ℕ) → (z ≡ x) ⊎ (z < x) → faultAt order curve z ≡ false
+          passes z (inl p) = ap (faultAt order curve) p ∙ e
+          passes z (inr l) = here .sound z l
+
+      -- the rows at a total that has a fault
+      pub filled-fault : x < places → isAccepted (firstOf (faults job weights)) ≡ false → Filled job weights lent₀ lent′
+      filled-fault h e = record {
+        low-kept = kept-trans places _ _ _ (kept-further (x + 1) places _ _ (omega arith) (step .low-kept)) (kept-further x places _ _ (omega arith) (here .low-kept));
+        high-kept = kept-trans places _ _ _ (kept-further (x + 1) places _ _ (omega arith) (step .high-kept)) (kept-further x places _ _ (omega arith) (here .high-kept));
+        bound-kept = kept-trans places _ _ _ (kept-further (x + 1) places _ _ (omega arith) (step .bound-kept)) (kept-further x places _ _ (omega arith) (here .bound-kept));
+        work-kept = kept-trans (workPlaces places) _ _ _ (step .work-kept) (here .work-kept);
+        curve = λ t. absurd (true≢false (sym t ∙ e));
+      }
+
+    -- the rows at the end
+    pub filled-end : x ≡ places → Filled job weights lent₀ lent
+    filled-end e = record {
+      low-kept = kept-further x places _ _ (NL.le-of-eq e) (here .low-kept);
+      high-kept = kept-further x places _ _ (NL.le-of-eq e) (here .high-kept);
+      bound-kept = kept-further x places _ _ (NL.le-of-eq e) (here .bound-kept);
+      work-kept = here .work-kept;
+      curve = λ t z l. here .entries 0 z (limits .law .order-least) (omega arith);
+    }

@@ -1,0 +1,72 @@
+-- What the outward rule preserves, by one induction over totals: entries stand beside other numbers (exact ones, the entries of another
+-- job, or none) in a relation that sums, factors and divisions preserve, and the others follow the same recursion.
+use mathlib.Core.Path.{sym, subst}
+use mathlib.Core.List.{List}
+use Prim.Native.Nat.{ℕ, zero, suc, _-_, _≤_, _<_}
+use native.Mathlib.Nat as NL
+use native.Mathlib.Omega.{arith}
+use lib.IntN.{ℤ, pos}
+use lib.ListN.{getD}
+use Rattle.algebra.specs.Sum.{accumulate}
+use Rattle.algebra.proofs.Induction.{strong}
+use Rattle.algebra.proofs.Sum.{sum-related}
+use Rattle.exact.specs.Severity.{totalWeight}
+use Rattle.model.specs.declared.Job.{Job}
+use Rattle.compound.specs.declared.Entry.{Entry}
+use Rattle.compound.specs.Entry.{none, plus, sumOf, scaled, rounded}
+use Rattle.compound.specs.Curve.{severities, factor, divisorZero, firstEntry, sumsZero, sumsNext, entryAt, curveRows}
+use Rattle.compound.proofs.Curve.{curve-rule}
+
+-- a relation of entries to other numbers that is preserved where both are added, multiplied and divided
+pub record Preserved (B : Type 0) (Rel : Entry → B → Type 0) : Type 1 where
+  pub nought : B
+  pub add : B → B → B
+  pub times : ℤ → B → B
+  -- Divided d b c: c is b divided by d
+  pub Divided : ℕ → B → B → Type 0
+  pub by-none : Rel none nought
+  pub by-plus : (e f : Entry) (b c : B) → Rel e b → Rel f c → Rel (plus e f) (add b c)
+  pub by-scaled : (z : ℤ) (e : Entry) (b : B) → Rel e b → Rel (scaled z e) (times z b)
+  pub by-rounded : (d : ℕ) (e : Entry) (b c : B) → 1 ≤ d → Rel e b → Divided d b c → Rel (rounded d e) c
+
+module _ {B : Type 0} {Rel : Entry → B → Type 0} (keeps : Preserved B Rel) where
+  -- the other numbers, added up
+  abbrev pub together : ℕ → (ℕ → B) → B
+  together = accumulate (keeps .nought) (keeps .add)
+
+  sum-preserved : (n : ℕ) (e : ℕ → Entry) (b : ℕ → B) → ((i : ℕ) → i < n → Rel (e i) (b i)) → Rel (sumOf n e) (together n b)
+  sum-preserved = sum-related Rel none plus (keeps .nought) (keeps .add) (keeps .by-none) (keeps .by-plus)
+
+  module _ (job : Job) (weights : List ℕ) where
+    -- rows of the other numbers follow the curve's rule
+    pub record Follows (rows : ℕ → ℕ → B) : Type 0 where
+      pub first : (j : ℕ) → j < job .law .order → Rel (firstEntry (job .start) j) (rows j 0)
+      pub row-zero : (x : ℕ) → 0 < job .law .order → keeps .Divided (divisorZero (job .law) weights (suc x))
+          (together (job .law .order) (λ i. together (severities weights (suc x)) (λ y.
+          keeps .times (factor (job .law) weights (suc x) i y) (rows i (suc x - suc y)))))
+          (rows 0 (suc x))
+      pub row-next : (j x : ℕ) → suc j < job .law .order → keeps .Divided (totalWeight weights)
+          (together (severities weights (suc x)) (λ y. keeps .times (pos (getD weights y 0)) (rows j (suc x - suc y))))
+          (rows (suc j) (suc x))
+
+    module _ (divisor-pos : 1 ≤ job .law .divisor) (total-pos : 1 ≤ totalWeight weights) (rows : ℕ → ℕ → B) (rule : Follows rows) where
+      -- the claim at total x, for the rows 0 to k - 1
+      abbrev At : ℕ → Type 0
+      At x = (j : ℕ) → j < job .law .order → Rel (curveRows job weights j x) (rows j x)
+
+      entry-preserved : (j x : ℕ) → j < job .law .order → ((z : ℕ) → z < x → At z)
+          → Rel (entryAt job weights (curveRows job weights) j x) (rows j x)
+      unfolding entryAt sumsZero sumsNext
+      entry-preserved j zero h before = rule .first j h
+      entry-preserved zero (suc x) h before = keeps .by-rounded _ _ _ _
+          (NL.mul-pos (NL.mul-pos divisor-pos (NL.zero-lt-suc x)) total-pos)
+          (sum-preserved (job .law .order) _ _ (λ i l. sum-preserved (severities weights (suc x)) _ _ (λ y m.
+          keeps .by-scaled _ _ _ (before (suc x - suc y) (omega arith) i l))))
+          (rule .row-zero x h)
+      entry-preserved (suc j) (suc x) h before = keeps .by-rounded _ _ _ _ total-pos
+          (sum-preserved (severities weights (suc x)) _ _ (λ y m.
+          keeps .by-scaled _ _ _ (before (suc x - suc y) (omega arith) j (omega arith))))
+          (rule .row-next j x h)
+
+      pub all-preserved : (x : ℕ) → At x
+      all-preserved = strong At (λ x before j h. subst (λ e. Rel e (rows j x)) (sym (curve-rule job weights j x h)) (entry-preserved j x h before))

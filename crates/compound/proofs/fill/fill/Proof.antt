@@ -1,0 +1,179 @@
+-- Before each total the rows hold the curve below it (`Reached`); the faults of a total decide whether it is the last.
+use borrow.Author.Needs.{needs}
+use mathlib.Core.Path.{_≡_, refl, sym, ap, _∙_}
+use mathlib.Core.Bool.{false, _||_}
+use mathlib.Core.List.{List}
+use Prim.Native.Nat.{ℕ, _≤_, _<_, _-_, _+_}
+use native.Mathlib.Omega.{arith}
+use Rattle.exact.specs.Severity.{totalWeight}
+use lib.Dec.{eqb}
+use lib.ListN.{length}
+use Rattle.model.specs.declared.Job.{Job}
+use Rattle.model.specs.Answer.{refused, isAccepted, firstOf}
+use Rattle.compound.specs.declared.fill.Faults.{Faults}
+use Rattle.compound.specs.Curve.{curveRows}
+use Rattle.compound.specs.Call.{Lent, lentRows, faultAt, faults}
+use Rattle.compound.specs.Room.{faultsBelow, Advanced, Filled}
+use Rattle.compound.proofs.Filled.{Reached, reached-first, reached-ready, faults-curve, reached-next, filled-fault, filled-end}
+use Rattle.compound.proofs.Filled.{found-range, found-bound, found-none}
+use Rattle.compound.proofs.fill.fill.Statement.{statement}
+use Rattle.compound.proofs.fill.fill.Tie as tie
+
+abbrev Inv-loop : tie.InvT-loop
+Inv-loop job weights low₀ high₀ bound₀ work₀ total places x₀ low high bound work x = (x ≤ job .last + 1)
+    × Reached job weights (lentRows low₀ high₀ bound₀ work₀) x (lentRows low high bound work)
+
+abbrev μ-loop : tie.MeasureT-loop
+μ-loop job weights low₀ high₀ bound₀ work₀ total places x₀ low high bound work x = job .last + 1 - x
+
+add-places : tie.Need-add-places Inv-loop μ-loop
+add-places c = record { fits = omega (arith, c .before .before .pre .0 .last-most) }
+
+loop-holds : tie.Need-loop-holds Inv-loop μ-loop
+loop-holds c = (search needs, reached-first _ _ (c .before .before .pre .0) _)
+
+-- the rows at the start and where a total is reached
+module _ (c : tie.At-loop Inv-loop μ-loop) where
+  abbrev start : tie.Start Inv-loop μ-loop
+  start = c .before .before .before
+
+  abbrev lent₀ : Lent
+  lent₀ = lentRows (start .args .low .now) (start .args .high .now) (start .args .bound .now) (start .args .work .now)
+
+  abbrev lent : Lent
+  lent = lentRows (c .loop .low) (c .loop .high) (c .loop .bound) (c .loop .work)
+
+  total-is : c .before .total-weight .result ≡ totalWeight (start .args .weights .now)
+  total-is = omega (arith, c .before .total-weight .ensures, start .pre .0 .table .weights-most)
+
+fill-total-requires : tie.Need-fill-total-requires Inv-loop μ-loop
+fill-total-requires c κs =
+    let turn = c .before .before .before .before in
+    let loop = turn .before in
+    let s = start loop in
+    ((total-is loop, s .pre .0), reached-ready _ _ (s .pre .0) _ (s .pre .1) _ _ (loop .loop .inv .1) (turn .loop-test .taken))
+
+-- after the entries of a total are put
+module _ (c : tie.After-work Inv-loop μ-loop) where
+  abbrev call : tie.After-fill-total Inv-loop μ-loop
+  call = c .before .before .before .before
+
+  abbrev turn : tie.In-loop Inv-loop μ-loop
+  turn = call .before .before .before .before .before
+
+  abbrev loop : tie.At-loop Inv-loop μ-loop
+  loop = turn .before
+
+  abbrev job : Job
+  job = start loop .args .job
+
+  abbrev weights : List ℕ
+  weights = start loop .args .weights .now
+
+  abbrev x : ℕ
+  x = loop .loop .x
+
+  abbrev filled : Lent
+  filled =
+      let rows = call .fill-total .last .1 .1 .1 .1 in
+      lentRows (rows .0) (rows .1 .0) (rows .1 .1 .0) (rows .1 .1 .1 .0)
+
+  abbrev here : Reached job weights (lent₀ loop) x (lent loop)
+  here = loop .loop .inv .1
+
+  step : Advanced job weights (job .last + 1) x (job .law .order) (lent loop) filled
+  step = call .fill-total .ensures .1
+
+  found : call .fill-total .result ≡ faultsBelow (job .law .order) (curveRows job weights) x
+  found = call .fill-total .ensures .0
+      ∙ faults-curve job weights (start loop .pre .0) (lent₀ loop) (start loop .pre .1) x (lent loop) here
+
+  low-same : length (filled .low) ≡ length (lent₀ loop .low)
+  low-same = step .low-kept .same-length ∙ here .low-kept .same-length
+
+  high-same : length (filled .high) ≡ length (lent₀ loop .high)
+  high-same = step .high-kept .same-length ∙ here .high-kept .same-length
+
+  bound-same : length (filled .bound) ≡ length (lent₀ loop .bound)
+  bound-same = step .bound-kept .same-length ∙ here .bound-kept .same-length
+
+  work-same : length (filled .work) ≡ length (lent₀ loop .work)
+  work-same = step .work-kept .same-length ∙ here .work-kept .same-length
+
+  -- an answer at this total
+  fault : (number : ℕ) → eqb number 0 ≡ false → firstOf (faults job weights) ≡ refused number x
+      → (refused number x ≡ firstOf (faults job weights)) × Filled job weights (lent₀ loop) filled
+  fault number refuses e = (sym e, filled-fault job weights (start loop .pre .0) (lent₀ loop) (start loop .pre .1) x (lent loop) here filled step
+      (turn .loop-test .taken) (ap isAccepted e ∙ refuses))
+
+returns : tie.Need-returns Inv-loop μ-loop
+returns c =
+    let w = c .before in
+    fault w 9 refl (found-range (job w) (weights w) (start (loop w) .pre .0) (x w) (turn w .loop-test .taken) (here w .sound)
+    (sym (ap (λ (f : Faults). f .range) (found w)) ∙ c .if1 .taken))
+
+returns-2 : tie.Need-returns-2 Inv-loop μ-loop
+returns-2 c =
+    let w = c .before .before in
+    fault w 10 refl (found-bound (job w) (weights w) (start (loop w) .pre .0) (x w) (turn w .loop-test .taken) (here w .sound)
+    (sym (ap (λ (f : Faults). f .range) (found w)) ∙ c .before .if1 .left) (sym (ap (λ (f : Faults). f .bound) (found w)) ∙ c .if2 .taken))
+
+-- no fault, and the next total
+sound : (c : tie.Else2 Inv-loop μ-loop) → let w = c .before .before in faultAt (job w .law .order) (curveRows (job w) (weights w)) (x w) ≡ false
+sound c =
+    let w = c .before .before in
+    rw (sym (ap (λ (f : Faults). f .range) (found w)) ∙ c .before .if1 .left) (sym (ap (λ (f : Faults). f .bound) (found w)) ∙ c .if2 .left)
+
+add-x : tie.Need-add-x Inv-loop μ-loop
+add-x c =
+    let w = c .before .before in
+    record { fits = omega (arith, turn w .loop-test .taken, start (loop w) .pre .0 .last-most) }
+
+loop-less : tie.Need-loop-less Inv-loop μ-loop
+loop-less c = omega (arith, turn (c .before .before) .loop-test .taken)
+
+loop-again : tie.Need-loop-again Inv-loop μ-loop
+loop-again c =
+    let w = c .before .before in (
+      omega (arith, turn w .loop-test .taken),
+      reached-next (job w) (weights w) (start (loop w) .pre .0) (lent₀ (loop w)) (start (loop w) .pre .1) (x w) (lent (loop w)) (here w) (filled w)
+      (step w) (sound c),
+    )
+
+returns-3 : tie.Need-returns-3 Inv-loop μ-loop
+returns-3 c =
+    let loop = c .before in
+    let s = start loop in
+    let all : loop .loop .x ≡ s .args .job .last + 1 = omega (arith, loop .loop .inv .0, c .loop-test .left) in (
+      sym (found-none (s .args .job) (s .args .weights .now) (s .pre .0) (rw all at (loop .loop .inv .1 .sound))),
+      filled-end (s .args .job) (s .args .weights .now) (s .pre .0) (lent₀ loop) (s .pre .1) (loop .loop .x) (lent loop) (loop .loop .inv .1) all,
+    )
+
+pub fill-spec : {M : Type 1} → statement M
+fill-spec =
+    tie.close
+    (tie.spec
+    Inv-loop
+    μ-loop
+    (λ c κs. search needs)
+    add-places
+    loop-holds
+    fill-total-requires
+    (λ c. low-same (c .before))
+    (λ c. high-same (c .before))
+    (λ c. bound-same (c .before))
+    (λ c. work-same (c .before))
+    returns
+    (λ c. low-same (c .before .before))
+    (λ c. high-same (c .before .before))
+    (λ c. bound-same (c .before .before))
+    (λ c. work-same (c .before .before))
+    returns-2
+    add-x
+    loop-less
+    loop-again
+    (λ c. c .before .loop .inv .1 .low-kept .same-length)
+    (λ c. c .before .loop .inv .1 .high-kept .same-length)
+    (λ c. c .before .loop .inv .1 .bound-kept .same-length)
+    (λ c. c .before .loop .inv .1 .work-kept .same-length)
+    returns-3)
