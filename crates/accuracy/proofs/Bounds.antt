@@ -10,7 +10,7 @@ use Rattle.model.specs.declared.Job.{Job}
 use Rattle.compound.specs.declared.Entry.{Entry}
 use Rattle.compound.specs.Entry.{none, plus, scaled, allowance, rounded}
 use Rattle.compound.specs.Curve.{factor, firstEntry, sumsZero, sumsNext, entryAt, curveRows}
-use Rattle.compound.proofs.Curve.{curve-rule}
+use Rattle.compound.proofs.Recursion.{curve-rule}
 use Rattle.accuracy.specs.Accuracy.{Divisible, gap}
 use Rattle.compound.proofs.Preserved.{Preserved, Follows, all-preserved}
 

@@ -17,7 +17,7 @@ use Rattle.compound.specs.Entry.{outOfRange, boundTooLarge}
 use Rattle.compound.specs.Curve.{Rows, entryAt}
 use Rattle.compound.specs.Call.{Lent, workPlaces}
 use Rattle.compound.specs.Room.{Reachable, Ready, Small, columnsAt, stored, placed, faultsBelow, Kept, Advanced}
-use Rattle.compound.proofs.Curve.{entry-local}
+use Rattle.compound.proofs.Recursion.{entry-local}
 use Rattle.compound.proofs.Stored.{columns-in, placed-other, placed-own}
 use Rattle.compound.proofs.Sums.{reachable}
 
@@ -80,9 +80,9 @@ module _ (job : Job) (weights : List ℕ) (places x : ℕ) (lent₀ : Lent) (rea
           so-far .high-kept,
           so-far .bound-kept,
           kept-set (workPlaces places) _ (lent₀ .work) (columnsAt places j + places + places + x) (e .bound) (omega (arith, within, below))
-          (kept-set (workPlaces places) _ (lent₀ .work) (columnsAt places j + places + x) (e .high) (omega (arith, within, below))
-          (kept-set (workPlaces places) (lent .work) (lent₀ .work) (columnsAt places j + x) (e .low) (omega (arith, within, below))
-          (so-far .work-kept))),
+              (kept-set (workPlaces places) _ (lent₀ .work) (columnsAt places j + places + x) (e .high) (omega (arith, within, below))
+              (kept-set (workPlaces places) (lent .work) (lent₀ .work) (columnsAt places j + x) (e .low) (omega (arith, within, below))
+              (so-far .work-kept))),
         )
 
     -- one row more

@@ -30,7 +30,7 @@ use Rattle.compound.specs.Call.{Lent, workPlaces, anyRow, faultAt, first
 use Rattle.compound.specs.Room.{Limits, LongEnough, Ready, Small, stored, faultsBelow, Kept, Advanced, Filled}
 use Rattle.compound.proofs.Advanced.{kept-all, same-faults}
 use Rattle.compound.proofs.Call.{or-left, or-right}
-use Rattle.compound.proofs.Curve.{curve-rule, entry-local}
+use Rattle.compound.proofs.Recursion.{curve-rule, entry-local}
 use Rattle.compound.proofs.Preserved.{Preserved, all-preserved}
 
 -- ---- bounds are zero or more

@@ -1,9 +1,10 @@
 -- Proofs that the functions of the crate share.
 pub mod Advanced
 pub mod Call
-pub mod Curve
+pub mod Recursion
 pub mod Filled
 pub mod Preserved
+pub mod Returned
 pub mod Scaled
 pub mod Sizes
 pub mod Stored

@@ -15,7 +15,7 @@ use Rattle.model.specs.declared.Job.{Job}
 use Rattle.compound.specs.declared.Entry.{Entry}
 use Rattle.compound.specs.Entry.{none, plus, sumOf, scaled, rounded}
 use Rattle.compound.specs.Curve.{severities, factor, divisorZero, firstEntry, sumsZero, sumsNext, entryAt, curveRows}
-use Rattle.compound.proofs.Curve.{curve-rule}
+use Rattle.compound.proofs.Recursion.{curve-rule}
 
 -- a relation of entries to other numbers that is preserved where both are added, multiplied and divided
 pub record Preserved (B : Type 0) (Rel : Entry → B → Type 0) : Type 1 where

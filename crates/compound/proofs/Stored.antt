@@ -15,7 +15,7 @@ use Rattle.compound.specs.declared.Entry.{Entry}
 use Rattle.compound.specs.declared.term.Factor.{Factor}
 use Rattle.compound.specs.Entry.{plus, scaled}
 use Rattle.compound.specs.Call.{Lent, lentRows, workPlaces}
-use Rattle.compound.proofs.Curve.{suc-pred}
+use Rattle.compound.proofs.Recursion.{suc-pred}
 use Rattle.compound.specs.Room.{LongEnough, Reachable, Small, TermRoom, termSums, entryOf, columnsAt, stored, placed}
 
 -- ---- a term reads its row below x alone

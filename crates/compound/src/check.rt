@@ -2,6 +2,7 @@
 
 use super::CurveAnswer;
 use super::Reason;
+use super::rows::WORK_COLUMNS;
 use super::rule::is_beyond;
 use model::Job;
 use model::Law;
@@ -96,7 +97,7 @@ fn is_too_short(places: usize, low: &[i64], high: &[i64], bound: &[i64], work: &
     if bound.len() < places {
         return true;
     }
-    work.len() < 9 * places
+    work.len() < WORK_COLUMNS * places
 }
 
 // The first condition of the list that holds.

@@ -1,13 +1,13 @@
 // The rows, filled total by total up to the first total that has a fault.
 
+use super::CurveAnswer;
+use super::Entry;
+use super::Reason;
 use super::check::total_weight;
 use super::rows::put;
 use super::rule::is_bound_too_large;
 use super::rule::is_out_of_range;
 use super::total::entry_at;
-use super::CurveAnswer;
-use super::Entry;
-use super::Reason;
 use model::Job;
 ghost use mathlib.Core.Path.{_≡_};
 ghost use mathlib.Core.Bool.{_||_};

@@ -7,6 +7,12 @@ mod rule;
 mod term;
 mod total;
 
+use model::Job;
+ghost use mathlib.Core.Path.{_≡_};
+ghost use mathlib.Core.Bool.{not};
+ghost use Rattle.model.specs.Answer.{isAccepted};
+ghost use Rattle.compound.specs.Call.{lentRows, paper, curveAnswer, curveLent};
+
 // An entry of a row, in units.
 pub struct Entry {
     pub low: i64,
@@ -30,5 +36,43 @@ pub enum Reason {
 
 pub enum CurveAnswer {
     Accepted,
+    // The reason and its place.
     Refused(Reason, usize),
+}
+
+fn is_refused(answer: CurveAnswer) -> bool
+    ensures { λ r. ⌜ r ≡ not (isAccepted (paper answer)) ⌝ }
+{
+    match answer {
+        CurveAnswer::Accepted => false,
+        CurveAnswer::Refused(_, _) => true,
+    }
+}
+
+// The curve of a job from total 0 to its last, in three lent rows. The work row is lent for the further rows of the recursion.
+pub fn curve(
+    job: Job,
+    weights: &[u64],
+    low: &mut [i64],
+    high: &mut [i64],
+    bound: &mut [i64],
+    work: &mut [i64],
+) -> CurveAnswer
+    ensures answer { λ r. ⌜ paper r ≡ curveAnswer job (now (weights .entry)) (lentRows (now (low .entry)) (now (high .entry)) (now (bound .entry)) (now (work .entry))) ⌝ }
+    ensures rows { λ r. ⌜ lentRows (now (low .exit)) (now (high .exit)) (now (bound .exit)) (now (work .exit)) ≡ curveLent job (now (weights .entry)) (lentRows (now (low .entry)) (now (high .entry)) (now (bound .entry)) (now (work .entry))) ⌝ }
+{
+    let checked = check::check(job, weights, low, high, bound, work);
+    if is_refused(checked) {
+        return checked;
+    }
+    let places = job.last as usize + 1;
+    let answer = fill::fill(job, weights, low, high, bound, work);
+    fill::clear(work, rows::WORK_COLUMNS * places);
+    if is_refused(answer) {
+        fill::clear(low, places);
+        fill::clear(high, places);
+        fill::clear(bound, places);
+        return answer;
+    }
+    answer
 }

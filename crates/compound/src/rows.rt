@@ -12,6 +12,9 @@ ghost use Rattle.compound.specs.Room.{Reachable, TermRoom, lineFactor, t
 // Low, high and bound.
 const COLUMNS: usize = 3;
 
+// The columns of the work row: those of the rows 1 to 3.
+pub const WORK_COLUMNS: usize = 9;
+
 // Where the columns of a further row begin, of `places` places each.
 fn columns_at(places: usize, row: usize) -> usize
     requires { ⌜ (1 ≤ row) × (row ≤ 3) × (places ≤ 501) ⌝ }

@@ -1,9 +1,9 @@
 // The entries of one total, from the rows at earlier totals.
 
+use super::Entry;
 use super::rows::add_row;
 use super::rule::divide_sums;
 use super::term::Factor;
-use super::Entry;
 use model::Job;
 use model::Law;
 use model::Start;
@@ -104,7 +104,18 @@ fn entry_next(
         constant: 1,
         slope: 0,
     };
-    let sums = add_row(none, weight, x, weights, low, high, bound, work, places, before);
+    let sums = add_row(
+        none,
+        weight,
+        x,
+        weights,
+        low,
+        high,
+        bound,
+        work,
+        places,
+        before,
+    );
     divide_sums(sums, total)
 }
 

@@ -103,8 +103,11 @@ module _ (c : tie.After-work Inv-loop μ-loop) where
   -- an answer at this total
   fault : (number : ℕ) → eqb number 0 ≡ false → firstOf (faults job weights) ≡ refused number x
       → (refused number x ≡ firstOf (faults job weights)) × Filled job weights (lent₀ loop) filled
-  fault number refuses e = (sym e, filled-fault job weights (start loop .pre .0) (lent₀ loop) (start loop .pre .1) x (lent loop) here filled step
-      (turn .loop-test .taken) (ap isAccepted e ∙ refuses))
+  fault number refuses e = (
+    sym e,
+    filled-fault job weights (start loop .pre .0) (lent₀ loop) (start loop .pre .1) x (lent loop) here filled step
+        (turn .loop-test .taken) (ap isAccepted e ∙ refuses),
+  )
 
 returns : tie.Need-returns Inv-loop μ-loop
 returns c =
@@ -137,7 +140,7 @@ loop-again c =
     let w = c .before .before in (
       omega (arith, turn w .loop-test .taken),
       reached-next (job w) (weights w) (start (loop w) .pre .0) (lent₀ (loop w)) (start (loop w) .pre .1) (x w) (lent (loop w)) (here w) (filled w)
-      (step w) (sound c),
+          (step w) (sound c),
     )
 
 returns-3 : tie.Need-returns-3 Inv-loop μ-loop

@@ -3,7 +3,7 @@ use borrow.Author.Needs.{needs}
 use mathlib.Core.Path.{sym, _∙_}
 use Prim.Native.Nat.{_-_, _<_}
 use native.Mathlib.Omega.{arith}
-use Rattle.compound.proofs.Curve.{entry-first, entry-zero, entry-next}
+use Rattle.compound.proofs.Recursion.{entry-first, entry-zero, entry-next}
 use Rattle.compound.proofs.Sums.{reachable, next-room}
 use Rattle.compound.proofs.total.entry_at.Statement.{statement}
 use Rattle.compound.proofs.total.entry_at.Tie as tie

@@ -10,7 +10,7 @@ use mir.Facts.{toZ-ofZ, toZ-pos}
 use Rattle.algebra.proofs.Size.{size-sub, size-fits}
 use Rattle.compound.specs.Curve.{firstEntry}
 use Rattle.compound.proofs.Scaled.{same-entry}
-use Rattle.compound.proofs.Curve.{suc-pred}
+use Rattle.compound.proofs.Recursion.{suc-pred}
 use Rattle.compound.proofs.total.first_entry.Statement.{statement}
 use Rattle.compound.proofs.total.first_entry.Tie as tie
 

@@ -1,0 +1,140 @@
+-- What the call returns, by how far it came: refused by the checks, refused at a total, or accepted. Rows whose later places are kept are
+-- rows that are written from the front.
+use mathlib.Core.Path.{_≡_, refl, sym, ap, _∙_}
+use mathlib.Core.Bool.{Bool, true, false, cond, true≢false}
+use mathlib.Core.List.{List, [], _++_}
+use Prim.Native.Nat.{ℕ, _+_, _*_, _≤_, _<_}
+use native.Mathlib.Omega.{arith}
+use lib.Dec.{eqb}
+use lib.IntN.{ℤ, pos}
+use lib.ListN.{length, getD, take, drop, replicate, length-replicate, take-append-drop}
+use lib.Seq.{length-take-le, getD-take, ext-getD}
+use Rattle.algebra.specs.Slice.{listed, written}
+use Rattle.algebra.proofs.Slice.{listed-length, listed-at}
+use Rattle.model.specs.declared.Job.{Job}
+use Rattle.model.specs.Answer.{Answer, accepted, isAccepted, firstOf}
+use Rattle.model.proofs.Answer.{first-append}
+use Rattle.compound.specs.declared.Entry.{Entry}
+use Rattle.compound.specs.declared.Reason.{Reason}
+use Rattle.compound.specs.declared.Reason.the-variants.{Order, Divisor, Term, Start, Severities, Weights, Last, Room, Range, Bound}
+use Rattle.compound.specs.declared.CurveAnswer.{CurveAnswer}
+use Rattle.compound.specs.declared.CurveAnswer.the-variants.{Accepted, Refused}
+use Rattle.compound.specs.Curve.{curveRows}
+use Rattle.compound.specs.Call.{numberOf, paper, Lent, lentRows, workPlaces, checks, faults, curveAnswer, rowAfter, ran, curveLent}
+use Rattle.compound.specs.Room.{LongEnough, Kept, Filled}
+use Rattle.compound.proofs.Stored.{same-lent}
+
+-- ---- answers of the code
+-- no reason has the acceptance's number
+pub numbered : (r : Reason) → eqb (numberOf r) 0 ≡ false
+numbered Order = refl
+numbered Divisor = refl
+numbered Term = refl
+numbered Start = refl
+numbered Severities = refl
+numbered Weights = refl
+numbered Last = refl
+numbered Room = refl
+numbered Range = refl
+numbered Bound = refl
+
+pub accepted-paper : (a : CurveAnswer) → isAccepted (paper a) ≡ true → paper a ≡ accepted
+accepted-paper Accepted e = refl
+accepted-paper (Refused reason place) e = absurd (true≢false (sym e ∙ numbered reason))
+
+-- ---- rows
+-- where n places are written, the later ones count
+kept-written : (front row row₀ : List ℤ) (n : ℕ) → length front ≡ n → Kept n row row₀ → written front row ≡ written front row₀
+kept-written front row row₀ n e k = ap (λ (rest : List ℤ). front ++ rest)
+    (ap (λ (i : ℕ). drop i row) e ∙ k .later ∙ ap (λ (i : ℕ). drop i row₀) (sym e))
+
+-- a row by its first n places
+kept-listed : (f : ℕ → ℤ) (row row₀ : List ℤ) (n : ℕ) → n ≤ length row₀ → Kept n row row₀ → ((z : ℕ) → z < n → getD row z (pos 0) ≡ f z)
+    → row ≡ written (listed f n) row₀
+kept-listed f row row₀ n h k at =
+    sym (take-append-drop n row)
+    ∙ ap (λ (front : List ℤ). front ++ drop n row) first
+    ∙ ap (λ (rest : List ℤ). listed f n ++ rest) (k .later ∙ ap (λ (i : ℕ). drop i row₀) (sym (listed-length f n)))
+  where
+    taken : length (take n row) ≡ n
+    taken = length-take-le n row (rw (k .same-length) h)
+
+    first : take n row ≡ listed f n
+    first = ext-getD (pos 0) (take n row) (listed f n) (taken ∙ sym (listed-length f n)) (λ z l.
+        getD-take n row z (pos 0) (rw taken at l) ∙ at z (rw taken at l) ∙ sym (listed-at f n z (pos 0) (rw taken at l)))
+
+module _ (job : Job) (weights : List ℕ) (lent₀ : Lent) where
+  abbrev places : ℕ
+  places = job .last + 1
+
+  -- the answer of the checks decides which answer the call's is
+  by-checks : curveAnswer job weights lent₀
+      ≡ cond (isAccepted (firstOf (checks job weights lent₀))) (firstOf (faults job weights)) (firstOf (checks job weights lent₀))
+  unfolding curveAnswer
+  by-checks = first-append (checks job weights lent₀) (faults job weights) tt
+
+  -- what the front of a row holds, by the answer of the totals
+  row-after : (column : Entry → ℤ) (b : Bool) → isAccepted (firstOf (faults job weights)) ≡ b
+      → cond b (listed (λ z. column (curveRows job weights 0 z)) places) (replicate places (pos 0)) ≡ rowAfter column job weights
+  unfolding rowAfter
+  row-after column b e =
+      ap (λ (t : Bool). cond t (listed (λ z. column (curveRows job weights 0 z)) places) (replicate places (pos 0))) (sym e)
+
+  -- ---- refused by the checks
+  module _ (answer : Answer) (is : answer ≡ firstOf (checks job weights lent₀)) (refuses : isAccepted answer ≡ false) where
+    early : isAccepted (firstOf (checks job weights lent₀)) ≡ false
+    early = ap isAccepted (sym is) ∙ refuses
+
+    pub early-answer : answer ≡ curveAnswer job weights lent₀
+    early-answer = is ∙ sym (by-checks ∙ ap (λ (b : Bool). cond b (firstOf (faults job weights)) (firstOf (checks job weights lent₀))) early)
+
+    pub early-rows : lent₀ ≡ curveLent job weights lent₀
+    unfolding curveLent
+    early-rows = ap (λ (b : Bool). cond b (ran job weights lent₀) lent₀) (sym early)
+
+  -- ---- past the checks
+  module _ (passed : accepted ≡ firstOf (checks job weights lent₀)) where
+    late : isAccepted (firstOf (checks job weights lent₀)) ≡ true
+    late = ap isAccepted (sym passed)
+
+    pub late-answer : firstOf (faults job weights) ≡ curveAnswer job weights lent₀
+    late-answer = sym (by-checks ∙ ap (λ (b : Bool). cond b (firstOf (faults job weights)) (firstOf (checks job weights lent₀))) late)
+
+    late-rows : ran job weights lent₀ ≡ curveLent job weights lent₀
+    unfolding curveLent
+    late-rows = ap (λ (b : Bool). cond b (ran job weights lent₀) lent₀) (sym late)
+
+    module _ (lent : Lent) (filled : Filled job weights lent₀ lent) (work : List ℤ)
+        (clear : work ≡ written (replicate (workPlaces places) (pos 0)) (lent .work)) where
+      zeros : (row row₀ : List ℤ) (n : ℕ) → Kept n row row₀ → written (replicate n (pos 0)) row ≡ written (replicate n (pos 0)) row₀
+      zeros row row₀ n = kept-written (replicate n (pos 0)) row row₀ n (length-replicate n (pos 0))
+
+      work-zeros : work ≡ written (replicate (workPlaces places) (pos 0)) (lent₀ .work)
+      work-zeros = clear ∙ zeros _ _ (workPlaces places) (filled .work-kept)
+
+      -- refused at a total: the rows were cleared
+      pub fault-rows : isAccepted (firstOf (faults job weights)) ≡ false → (low high bound : List ℤ)
+          → low ≡ written (replicate places (pos 0)) (lent .low) → high ≡ written (replicate places (pos 0)) (lent .high)
+          → bound ≡ written (replicate places (pos 0)) (lent .bound) → lentRows low high bound work ≡ curveLent job weights lent₀
+      fault-rows e low high bound p q r =
+          same-lent (p ∙ cleared (λ e. e .low) _ _ (filled .low-kept)) (q ∙ cleared (λ e. e .high) _ _ (filled .high-kept))
+          (r ∙ cleared (λ e. e .bound) _ _ (filled .bound-kept)) work-zeros
+          ∙ late-rows
+        where
+          cleared : (column : Entry → ℤ) (row row₀ : List ℤ) → Kept places row row₀
+              → written (replicate places (pos 0)) row ≡ written (rowAfter column job weights) row₀
+          cleared column row row₀ k = zeros row row₀ places k ∙ ap (λ (front : List ℤ). written front row₀) (row-after column false e)
+
+      -- accepted: the rows hold row 0
+      pub end-rows : LongEnough places lent₀ → isAccepted (firstOf (faults job weights)) ≡ true
+          → lentRows (lent .low) (lent .high) (lent .bound) work ≡ curveLent job weights lent₀
+      end-rows long e =
+          same-lent (held (λ e. e .low) _ _ (long .low-long) (filled .low-kept) (λ z l. ap (λ (e : Entry). e .low) (filled .curve e z l)))
+          (held (λ e. e .high) _ _ (long .high-long) (filled .high-kept) (λ z l. ap (λ (e : Entry). e .high) (filled .curve e z l)))
+          (held (λ e. e .bound) _ _ (long .bound-long) (filled .bound-kept) (λ z l. ap (λ (e : Entry). e .bound) (filled .curve e z l))) work-zeros
+          ∙ late-rows
+        where
+          held : (column : Entry → ℤ) (row row₀ : List ℤ) → places ≤ length row₀ → Kept places row row₀
+              → ((z : ℕ) → z < places → getD row z (pos 0) ≡ column (curveRows job weights 0 z)) → row ≡ written (rowAfter column job weights) row₀
+          held column row row₀ h k at = kept-listed (λ z. column (curveRows job weights 0 z)) row row₀ places h k at
+              ∙ ap (λ (front : List ℤ). written front row₀) (row-after column true e)

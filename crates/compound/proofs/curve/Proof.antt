@@ -1,0 +1,157 @@
+-- By the two tests: refused by the checks, refused at a total, accepted; `Returned` has what each returns.
+use borrow.Author.Needs.{needs}
+use borrow.Author.Tests.{not-true, not-false}
+use mathlib.Core.Path.{_≡_, sym, ap, _∙_}
+use mathlib.Core.Bool.{true, false, not}
+use mathlib.Core.List.{List, []}
+use Prim.Native.Nat.{ℕ, _+_, _≤_}
+use native.Mathlib.Omega.{arith}
+use lib.ListN.{length}
+use Rattle.model.specs.declared.Job.{Job}
+use Rattle.model.specs.Answer.{accepted, isAccepted, firstOf}
+use Rattle.compound.specs.Call.{Lent, lentRows, paper, checks, faults}
+use Rattle.compound.specs.Room.{Limits, LongEnough, Filled}
+use Rattle.compound.proofs.Call.{checked-limits}
+use Rattle.compound.proofs.Returned.{accepted-paper, early-answer, early-rows, late-answer, fault-rows, end-rows}
+use Rattle.compound.proofs.curve.Statement.{statement}
+use Rattle.compound.proofs.curve.Tie as tie
+
+-- what was lent
+module _ (c : tie.Start) where
+  abbrev job : Job
+  job = c .args .job
+
+  abbrev weights : List ℕ
+  weights = c .args .weights .now
+
+  abbrev lent₀ : Lent
+  lent₀ = lentRows (c .args .low .now) (c .args .high .now) (c .args .bound .now) (c .args .work .now)
+
+-- ---- refused by the checks
+returns : tie.Need-returns
+returns c =
+    let call = c .before .before in
+    let s = call .before .before .before .before .before .before in
+    let refuses = not-true _ (sym (c .before .is-refused .ensures) ∙ c .if1 .taken) in (
+      early-answer (job s) (weights s) (lent₀ s) (paper (call .check .result)) (call .check .ensures) refuses,
+      early-rows (job s) (weights s) (lent₀ s) (paper (call .check .result)) (call .check .ensures) refuses,
+    )
+
+-- ---- past the checks
+module _ (c : tie.Else1) where
+  abbrev start : tie.Start
+  start = c .before .before .before .before .before .before .before .before
+
+  passed : accepted ≡ firstOf (checks (job start) (weights start) (lent₀ start))
+  passed = sym (accepted-paper (c .before .before .check .result) (not-false _ (sym (c .before .is-refused .ensures) ∙ c .if1 .left)))
+      ∙ c .before .before .check .ensures
+
+  limits : Limits (job start) (weights start)
+  limits = checked-limits (job start) (weights start) (lent₀ start) [] (sym passed) .0
+
+  long : LongEnough (job start .last + 1) (lent₀ start)
+  long = checked-limits (job start) (weights start) (lent₀ start) [] (sym passed) .1
+
+add-places : tie.Need-add-places
+add-places c = record { fits = omega (arith, limits c .last-most) }
+
+fill-requires : tie.Need-fill-requires
+fill-requires c κs = let e = c .before .before .before .before in (limits e, long e)
+
+-- after the totals
+module _ (c : tie.After-fill) where
+  abbrev else : tie.Else1
+  else = c .before .before .before .before .before
+
+  abbrev lent : Lent
+  lent =
+      let rows = c .fill .last .1 .1 in
+      lentRows (rows .0) (rows .1 .0) (rows .1 .1 .0) (rows .1 .1 .1 .0)
+
+  filled : Filled (job (start else)) (weights (start else)) (lent₀ (start else)) lent
+  filled = c .fill .ensures .1
+
+  low-long : job (start else) .last + 1 ≤ length (lent .low)
+  low-long = rw (filled .low-kept .same-length) (long else .low-long)
+
+  high-long : job (start else) .last + 1 ≤ length (lent .high)
+  high-long = rw (filled .high-kept .same-length) (long else .high-long)
+
+  bound-long : job (start else) .last + 1 ≤ length (lent .bound)
+  bound-long = rw (filled .bound-kept .same-length) (long else .bound-long)
+
+mul-clear : tie.Need-mul-clear
+mul-clear c = let f = c .before .before .before .before .before in record { fits = omega (arith, limits (else f) .last-most) }
+
+clear-requires : tie.Need-clear-requires
+clear-requires c κs = let f = c .before .before .before .before .before in rw (filled f .work-kept .same-length) (long (else f) .work-long)
+
+-- the work row cleared
+abbrev fill-of : tie.After-is-refused2 → tie.After-fill
+fill-of c = c .before .before .before .before .before .before .before .before
+
+clear-requires-2 : tie.Need-clear-requires-2
+clear-requires-2 c κs = low-long (fill-of (c .before .before))
+
+clear-requires-3 : tie.Need-clear-requires-3
+clear-requires-3 c κs = high-long (fill-of (c .before .before .before .before .before))
+
+clear-requires-4 : tie.Need-clear-requires-4
+clear-requires-4 c κs = bound-long (fill-of (c .before .before .before .before .before .before .before .before))
+
+-- ---- refused at a total
+returns-2 : tie.Need-returns-2
+returns-2 c =
+    let bound = c .before in
+    let high = bound .before .before .before in
+    let low = high .before .before .before in
+    let then = low .before .before in
+    let call = fill-of (then .before) in
+    let s = start (else call) in
+    let answer = call .fill .ensures .0 in
+    let refuses = ap isAccepted (sym answer) ∙ not-true _ (sym (then .before .is-refused2 .ensures) ∙ then .if2 .taken) in (
+      answer ∙ late-answer (job s) (weights s) (lent₀ s) (passed (else call)),
+      fault-rows (job s) (weights s) (lent₀ s) (passed (else call)) (lent call) (filled call) _ (then .before .before .before .clear .ensures) refuses _ _ _
+          (low .clear2 .ensures) (high .clear3 .ensures) (bound .clear4 .ensures),
+    )
+
+-- ---- accepted
+returns-3 : tie.Need-returns-3
+returns-3 c =
+    let call = fill-of (c .before) in
+    let s = start (else call) in
+    let answer = call .fill .ensures .0 in
+    let accepts = ap isAccepted (sym answer) ∙ not-false _ (sym (c .before .is-refused2 .ensures) ∙ c .if2 .left) in (
+      answer ∙ late-answer (job s) (weights s) (lent₀ s) (passed (else call)),
+      end-rows (job s) (weights s) (lent₀ s) (passed (else call)) (lent call) (filled call) _ (c .before .before .before .clear .ensures) (long (else call)) accepts,
+    )
+
+pub curve-spec : {M : Type 1} → statement M
+curve-spec =
+    tie.close
+    (tie.spec
+    (λ c κs. search needs)
+    (λ c κs. search needs)
+    (λ c. search needs)
+    (λ c. search needs)
+    (λ c. search needs)
+    (λ c. search needs)
+    returns
+    add-places
+    fill-requires
+    mul-clear
+    clear-requires
+    (λ c κs. search needs)
+    clear-requires-2
+    clear-requires-3
+    clear-requires-4
+    (λ c. search needs)
+    (λ c. search needs)
+    (λ c. search needs)
+    (λ c. search needs)
+    returns-2
+    (λ c. search needs)
+    (λ c. search needs)
+    (λ c. search needs)
+    (λ c. search needs)
+    returns-3)
