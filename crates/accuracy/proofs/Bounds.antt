@@ -7,8 +7,8 @@ use lib.IntN.{ℤ, pos, natAbs, _+ℤ_, _*ℤ_}
 use Rattle.outward.specs.Division.{ceilDiv}
 use Rattle.model.specs.declared.Law.{Law}
 use Rattle.model.specs.declared.Job.{Job}
-use Rattle.compound.specs.declared.Entry.{Entry}
-use Rattle.compound.specs.Entry.{none, plus, scaled, allowance, rounded}
+use Rattle.enclosure.specs.declared.Entry.{Entry}
+use Rattle.enclosure.specs.Entry.{none, plus, scaled, allowance, rounded}
 use Rattle.compound.specs.Curve.{factor, firstEntry, sumsZero, sumsNext, entryAt, curveRows}
 use Rattle.compound.proofs.Recursion.{curve-rule}
 use Rattle.accuracy.specs.Accuracy.{Divisible, gap}

@@ -12,7 +12,7 @@ use Rattle.algebra.proofs.Slice.{listed-length, listed-at}
 use Rattle.model.specs.declared.Job.{Job}
 use Rattle.model.specs.Answer.{Condition, accepted, isAccepted, firstOf}
 use Rattle.model.proofs.Answer.{numbered, first-append}
-use Rattle.compound.specs.declared.Entry.{Entry}
+use Rattle.enclosure.specs.declared.Entry.{Entry}
 use Rattle.compound.specs.Curve.{curveRows}
 use Rattle.compound.specs.Call.{Lent, checks, faults, curveAnswer, rowAfter, ran, curveLent}
 use Rattle.compound.specs.Room.{Limits, LongEnough}

@@ -20,8 +20,8 @@ use Rattle.exact.proofs.Amount.{valueRow, value-amount}
 use Rattle.exact.proofs.Recursion.{recursion-value, convolution-value, first-value, first-further}
 use Rattle.outward.proofs.Division.{floor-is, ceil-is}
 use Rattle.model.specs.declared.Job.{Job}
-use Rattle.compound.specs.declared.Entry.{Entry}
-use Rattle.compound.specs.Entry.{none, plus, scaled, rounded}
+use Rattle.enclosure.specs.declared.Entry.{Entry}
+use Rattle.enclosure.specs.Entry.{none, plus, scaled, rounded}
 use Rattle.compound.specs.Curve.{factor, firstEntry, curveRows}
 use Rattle.accuracy.specs.Accuracy.{Divisible, frequency, severity, amount}
 use Rattle.compound.proofs.Preserved.{Preserved, Follows, all-preserved}

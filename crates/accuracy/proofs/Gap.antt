@@ -9,8 +9,8 @@ use Rattle.algebra.proofs.Integer.{up, down, signed, split-add, split-mul, spli
 use Rattle.outward.specs.Division.{floorDiv, ceilDiv}
 use Rattle.outward.proofs.Division.{floor-is, ceil-is}
 use Rattle.model.specs.declared.Job.{Job}
-use Rattle.compound.specs.declared.Entry.{Entry}
-use Rattle.compound.specs.Entry.{plus, scaled, allowance, rounded}
+use Rattle.enclosure.specs.declared.Entry.{Entry}
+use Rattle.enclosure.specs.Entry.{plus, scaled, allowance, rounded}
 use Rattle.compound.specs.Curve.{firstEntry, curveRows}
 use Rattle.accuracy.specs.Accuracy.{Divisible}
 use Rattle.compound.proofs.Preserved.{Preserved, all-preserved}

@@ -14,7 +14,7 @@ use Rattle.model.specs.declared.Law.{Law}
 use Rattle.model.specs.declared.Start.{Start}
 use Rattle.model.specs.declared.Job.{Job}
 use Rattle.model.specs.Answer.{accepted}
-use Rattle.compound.specs.declared.Entry.{Entry}
+use Rattle.enclosure.specs.declared.Entry.{Entry}
 use Rattle.compound.specs.Curve.{curveRows}
 use Rattle.compound.specs.Call.{Lent, curveAnswer, curveLent}
 

@@ -7,6 +7,7 @@ pub mod Integer
 pub mod Size
 pub mod Ring
 pub mod Solver
+pub mod Or
 pub mod Order
 pub mod Rational
 pub mod Value

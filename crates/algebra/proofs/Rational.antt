@@ -1,7 +1,7 @@
 -- The rational numbers as classes of fractions: fractions each of which is at most the other are one class. Every law is an identity of
 -- integers, proved over any semiring and used at ℤ.
 use mathlib.Core.Path.{_≡_, refl, sym, _∙_, ap}
-use Prim.Native.Nat.{ℕ, _≤_, _*_}
+use Prim.Native.Nat.{ℕ, _*_}
 use std.Quotient.{_/_, cls, eq/, /-set, /-rec, /-rec₂, /-elim-prop, /-elim-prop₂, /-elim-prop₃, IsEquivRel, effective}
 use std.HProp.{HProp, HProp-set, HProp-ext}
 use std.HLevel.{Π-prop, Dec-prop}

@@ -13,7 +13,7 @@ use Rattle.algebra.specs.Table.{Equates, sameInteger}
 use Rattle.algebra.proofs.Table.{and-left, and-right, each-passes, same-integer, same-list}
 use Rattle.outward.specs.Division.{floorDiv, ceilDiv}
 use Rattle.model.specs.Answer.{Answer, refused, firstOf}
-use Rattle.compound.specs.Entry.{scaled, rounded}
+use Rattle.enclosure.specs.Entry.{scaled, rounded}
 use Rattle.compound.specs.Curve.{factor, sumsZero, sumsNext, entryAt, withNext, history, curveRows}
 use Rattle.compound.specs.Call.{Lent, lentRows, firstFault, curveAnswer, rowAfter, curveLent}
 use Rattle.cases.specs.Cases.{Case, curve, Holds, cases, CasesHold, numbers, sameAnswer, sameRow, rows, sameLent, test}

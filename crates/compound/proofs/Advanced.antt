@@ -11,12 +11,13 @@ use lib.ListN.{set, length-set}
 use lib.Seq.{drop-set-lt}
 use Rattle.algebra.proofs.Sum.{accumulate-zero, accumulate-next}
 use Rattle.model.specs.declared.Job.{Job}
-use Rattle.compound.specs.declared.Entry.{Entry}
+use Rattle.enclosure.specs.declared.Entry.{Entry}
 use Rattle.compound.specs.declared.fill.Faults.{Faults}
-use Rattle.compound.specs.Entry.{outOfRange, boundTooLarge}
+use Rattle.enclosure.specs.Entry.{outOfRange, boundTooLarge}
 use Rattle.compound.specs.Curve.{Rows, entryAt}
 use Rattle.compound.specs.Call.{Lent, workPlaces}
-use Rattle.compound.specs.Room.{Reachable, Ready, Small, columnsAt, stored, placed, faultsBelow, Kept, Advanced}
+use Rattle.enclosure.specs.Term.{Small}
+use Rattle.compound.specs.Room.{Reachable, Ready, columnsAt, stored, placed, faultsBelow, Kept, Advanced}
 use Rattle.compound.proofs.Recursion.{entry-local}
 use Rattle.compound.proofs.Stored.{columns-in, placed-other, placed-own}
 use Rattle.compound.proofs.Sums.{reachable}

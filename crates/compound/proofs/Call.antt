@@ -1,34 +1,25 @@
 -- What an answer says of its job: the checks are a chain of conditions, and an acceptance passed each of them.
-use mathlib.Core.Path.{_≡_, refl, ap}
+use mathlib.Core.Path.{_≡_}
 use mathlib.Core.Bool.{Bool, true, false, _||_, cond}
 use mathlib.Core.List.{List, _++_}
-use Prim.Native.Nat.{ℕ, suc, _+_, _≤_, _<_, zero-le}
+use Prim.Native.Nat.{ℕ, _+_, _≤_, _<_, zero-le}
 use native.Mathlib.Nat as NL
 use native.Mathlib.Omega.{arith}
 use borrow.Author.Tests.{ltb-false}
 use lib.Dec.{ltb}
 use lib.IntN.{ℤ, pos, natAbs}
-use lib.ListN.{length, getD}
+use lib.ListN.{getD}
+use Rattle.algebra.proofs.Or.{or-left, or-right}
 use Rattle.algebra.specs.Smallest.{smallest}
 use Rattle.algebra.proofs.Smallest.{smallest-finds}
-use Rattle.exact.specs.Severity.{totalWeight}
 use Rattle.model.specs.declared.Job.{Job}
 use Rattle.model.specs.Answer.{Condition, accepted, firstOf}
 use Rattle.model.proofs.Answer.{passed}
-use Rattle.compound.specs.Entry.{unit, beyond}
-use Rattle.compound.specs.Curve.{Rows, curveRows}
-use Rattle.compound.specs.Call.{Lent, outside, termLimit, wrongTerm, wrongStart, shorter, workPlaces, tooShort, checks}
+use Rattle.enclosure.specs.Entry.{unit, beyond}
+use Rattle.compound.specs.Call.{Lent, outside, termLimit, wrongTerm, shorter, workPlaces, tooShort, checks}
 use Rattle.compound.specs.Room.{Limits, LongEnough}
 
 -- ---- tests
-pub or-left : (p q : Bool) → (p || q) ≡ false → p ≡ false
-or-left false q e = refl
-or-left true q e = e
-
-pub or-right : (p q : Bool) → (p || q) ≡ false → q ≡ false
-or-right false q e = e
-or-right true q e = cc
-
 within : (least most n : ℕ) → outside least most n ≡ false → (least ≤ n) × (n ≤ most)
 within least most n e = (ltb-false n least (or-left (ltb n least) (ltb most n) e), ltb-false most n (or-right (ltb n least) (ltb most n) e))
 

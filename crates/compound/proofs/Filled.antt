@@ -1,19 +1,19 @@
 -- Total by total: below the total that is reached the rows hold the curve, and no entry there has a fault, so the next total can be
 -- computed; at the first fault, or at the end, the answer is that of the definition.
-use mathlib.Core.Path.{_≡_, refl, sym, ap, _∙_, subst}
-use mathlib.Core.Bool.{Bool, true, false, _&&_, _||_, true≢false}
+use mathlib.Core.Path.{_≡_, sym, ap, _∙_, subst}
+use mathlib.Core.Bool.{Bool, true, false, _||_, true≢false}
 use mathlib.Core.List.{List, []}
 use mathlib.Core.Logic.{_⊎_, inl, inr}
 use Prim.Native.Nat.{ℕ, zero, suc, _+_, _-_, _*_, _≤_, _<_}
 use native.Mathlib.Nat as NL
 use native.Mathlib.Omega.{arith}
 use borrow.Author.Tests.{ltb-false, lt-ltb, le-ltb}
-use lib.Dec.{ltb, lit≤}
-use lib.IntN.{ℤ, pos, negsuc, natAbs, _+ℤ_, _-ℤ_, _*ℤ_, negℤ}
+use lib.Dec.{ltb}
+use lib.IntN.{ℤ, pos, negsuc, natAbs, negℤ}
 use lib.Signed.{ltZ, _≤ℤ_}
-use lib.ListN.{length, drop}
+use lib.ListN.{drop}
 use lib.Seq.{drop-drop}
-use Rattle.algebra.specs.Smallest.{smallest, FailBelow}
+use Rattle.algebra.specs.Smallest.{FailBelow}
 use Rattle.algebra.specs.Sum.{accumulate}
 use Rattle.algebra.proofs.Integer.{signed, split-add, split-neg, *ℤ-nonneg}
 use Rattle.algebra.proofs.Smallest.{smallest-is}
@@ -23,13 +23,14 @@ use Rattle.outward.proofs.Division.{ceil-nonneg}
 use Rattle.model.specs.declared.Job.{Job}
 use Rattle.model.specs.Answer.{accepted, refused, isAccepted, firstOf}
 use Rattle.model.proofs.Answer.{first-none, first-holds, first-fails}
-use Rattle.compound.specs.declared.Entry.{Entry}
-use Rattle.compound.specs.Entry.{unit, plus, scaled, rounded, outOfRange, boundTooLarge}
+use Rattle.enclosure.specs.declared.Entry.{Entry}
+use Rattle.enclosure.specs.Entry.{unit, plus, scaled, rounded, outOfRange, boundTooLarge}
 use Rattle.compound.specs.Curve.{Rows, firstEntry, entryAt, curveRows}
 use Rattle.compound.specs.Call.{Lent, workPlaces, anyRow, faultAt, firstFault, faults}
-use Rattle.compound.specs.Room.{Limits, LongEnough, Ready, Small, stored, faultsBelow, Kept, Advanced, Filled}
+use Rattle.enclosure.specs.Term.{Small}
+use Rattle.compound.specs.Room.{Limits, LongEnough, Ready, stored, faultsBelow, Kept, Advanced, Filled}
 use Rattle.compound.proofs.Advanced.{kept-all, same-faults}
-use Rattle.compound.proofs.Call.{or-left, or-right}
+use Rattle.algebra.proofs.Or.{or-left, or-right}
 use Rattle.compound.proofs.Recursion.{curve-rule, entry-local}
 use Rattle.compound.proofs.Preserved.{Preserved, all-preserved}
 

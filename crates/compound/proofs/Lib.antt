@@ -5,8 +5,6 @@ pub mod Recursion
 pub mod Filled
 pub mod Preserved
 pub mod Returned
-pub mod Scaled
-pub mod Sizes
 pub mod Stored
 pub mod Sums
 pub mod Tests

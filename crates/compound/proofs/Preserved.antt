@@ -12,8 +12,8 @@ use Rattle.algebra.proofs.Induction.{strong}
 use Rattle.algebra.proofs.Sum.{sum-related}
 use Rattle.exact.specs.Severity.{totalWeight}
 use Rattle.model.specs.declared.Job.{Job}
-use Rattle.compound.specs.declared.Entry.{Entry}
-use Rattle.compound.specs.Entry.{none, plus, sumOf, scaled, rounded}
+use Rattle.enclosure.specs.declared.Entry.{Entry}
+use Rattle.enclosure.specs.Entry.{none, plus, sumOf, scaled, rounded}
 use Rattle.compound.specs.Curve.{severities, factor, divisorZero, firstEntry, sumsZero, sumsNext, entryAt, curveRows}
 use Rattle.compound.proofs.Recursion.{curve-rule}
 

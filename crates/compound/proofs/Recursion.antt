@@ -1,19 +1,18 @@
 -- The entries that are recorded total by total follow the rule: the record at a later total begins with the record at an earlier one, and
 -- the rule reads only the rows 0 to k - 1 at earlier totals.
 use mathlib.Core.Path.{_≡_, refl, sym, ap, ap₂, _∙_}
-use mathlib.Core.List.{List, [], _∷_, _++_}
-use Prim.Native.Nat.{ℕ, zero, suc, _+_, _-_, _≤_, _<_}
+use mathlib.Core.List.{List, []}
+use Prim.Native.Nat.{ℕ, zero, suc, _+_, _-_, _<_}
 use native.Mathlib.Nat as NL
 use native.Mathlib.Omega.{arith}
 use lib.ListN.{length, getD, length-append, List·getD-append}
 use lib.Seq.{getD-at}
-use Rattle.algebra.specs.Slice.{listed}
-use Rattle.algebra.proofs.Slice.{listed-length, listed-at}
+use Rattle.algebra.proofs.Slice.{listed-at}
 use Rattle.algebra.proofs.Sum.{accumulate-cong}
 use Rattle.exact.specs.Severity.{totalWeight}
 use Rattle.model.specs.declared.Job.{Job}
-use Rattle.compound.specs.declared.Entry.{Entry}
-use Rattle.compound.specs.Entry.{none, plus, scaled, rounded}
+use Rattle.enclosure.specs.declared.Entry.{Entry}
+use Rattle.enclosure.specs.Entry.{none, plus, scaled, rounded}
 use Rattle.compound.specs.Curve.{Rows, recorded, severities, factor, divisorZero, sumsZero, sumsNext, firstEntry}
 use Rattle.compound.specs.Curve.{entryAt, withNext, history, curveRows, CurveRule}
 

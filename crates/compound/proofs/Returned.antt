@@ -2,9 +2,8 @@
 -- rows that are written from the front.
 use mathlib.Core.Path.{_≡_, refl, sym, ap, _∙_}
 use mathlib.Core.Bool.{Bool, true, false, cond, true≢false}
-use mathlib.Core.List.{List, [], _++_}
-use Prim.Native.Nat.{ℕ, _+_, _*_, _≤_, _<_}
-use native.Mathlib.Omega.{arith}
+use mathlib.Core.List.{List, _++_}
+use Prim.Native.Nat.{ℕ, _+_, _≤_, _<_}
 use lib.Dec.{eqb}
 use lib.IntN.{ℤ, pos}
 use lib.ListN.{length, getD, take, drop, replicate, length-replicate, take-append-drop}
@@ -14,7 +13,7 @@ use Rattle.algebra.proofs.Slice.{listed-length, listed-at}
 use Rattle.model.specs.declared.Job.{Job}
 use Rattle.model.specs.Answer.{Answer, accepted, isAccepted, firstOf}
 use Rattle.model.proofs.Answer.{first-append}
-use Rattle.compound.specs.declared.Entry.{Entry}
+use Rattle.enclosure.specs.declared.Entry.{Entry}
 use Rattle.compound.specs.declared.Reason.{Reason}
 use Rattle.compound.specs.declared.Reason.the-variants.{Order, Divisor, Term, Start, Severities, Weights, Last, Room, Range, Bound}
 use Rattle.compound.specs.declared.CurveAnswer.{CurveAnswer}

@@ -11,12 +11,13 @@ use lib.IntN.{ℤ, pos}
 use lib.ListN.{length, getD, take, drop, set, length-drop, length-set}
 use lib.Seq.{length-take-le, getD-take, getD-drop, getD-set-same, getD-set-other}
 use Rattle.algebra.proofs.Sum.{accumulate-cong}
-use Rattle.compound.specs.declared.Entry.{Entry}
-use Rattle.compound.specs.declared.term.Factor.{Factor}
-use Rattle.compound.specs.Entry.{plus, scaled}
+use Rattle.enclosure.specs.declared.Entry.{Entry}
+use Rattle.enclosure.specs.declared.term.Factor.{Factor}
+use Rattle.enclosure.specs.Entry.{plus, scaled}
 use Rattle.compound.specs.Call.{Lent, lentRows, workPlaces}
 use Rattle.compound.proofs.Recursion.{suc-pred}
-use Rattle.compound.specs.Room.{LongEnough, Reachable, Small, TermRoom, termSums, entryOf, columnsAt, stored, placed}
+use Rattle.enclosure.specs.Term.{Small, TermRoom, termSums, entryOf}
+use Rattle.compound.specs.Room.{Reachable, columnsAt, stored, placed}
 
 -- ---- a term reads its row below x alone
 module _ (x : ℕ) (row row′ : ℕ → Entry) (same : (z : ℕ) → z < x → row z ≡ row′ z) where

@@ -10,19 +10,19 @@ use lib.IntN.{ℤ, pos, natAbs, _+ℤ_, _*ℤ_, +ℤ-assoc, +ℤ-comm, +ℤ-idr}
 use lib.ListN.{getD}
 use mir.Syntax.{w64}
 use mir.Val.{SFits}
-use Rattle.algebra.specs.Sum.{accumulate}
 use Rattle.algebra.proofs.Sum.{accumulate-zero, accumulate-next, accumulate-from, accumulate-cong}
 use Rattle.algebra.proofs.Size.{size-mul-le}
 use Rattle.outward.specs.Division.{ceilDiv}
 use Rattle.model.specs.declared.Law.{Law}
-use Rattle.compound.specs.declared.Entry.{Entry}
-use Rattle.compound.specs.declared.term.Factor.{Factor}
-use Rattle.compound.specs.Entry.{none, plus, sumOf, scaled}
+use Rattle.enclosure.specs.declared.Entry.{Entry}
+use Rattle.enclosure.specs.declared.term.Factor.{Factor}
+use Rattle.enclosure.specs.Entry.{none, plus, sumOf, scaled}
 use Rattle.compound.specs.Curve.{Rows, severities, factor, sumsZero, sumsNext}
 use Rattle.compound.specs.Call.{Lent}
-use Rattle.compound.specs.Room.{Ready, Reachable, Small, TermRoom, lineFactor, termSums, termFactor, weightAlone, stored}
-use Rattle.compound.proofs.Scaled.{same-entry}
-use Rattle.compound.proofs.Sizes.{term-size, quotient-fits}
+use Rattle.enclosure.specs.Term.{TermRoom, lineFactor, termSums}
+use Rattle.compound.specs.Room.{Ready, Reachable, termFactor, weightAlone, stored}
+use Rattle.enclosure.proofs.Scaled.{same-entry}
+use Rattle.enclosure.proofs.Sizes.{term-size, quotient-fits}
 
 plus-assoc : (d e f : Entry) → plus (plus d e) f ≡ plus d (plus e f)
 plus-assoc d e f = same-entry (+ℤ-assoc (d .low) (e .low) (f .low)) (+ℤ-assoc (d .high) (e .high) (f .high))

@@ -13,12 +13,12 @@ use Rattle.model.specs.declared.Law.{Law}
 use Rattle.model.specs.declared.Start.{Start}
 use Rattle.model.specs.declared.Job.{Job}
 use Rattle.model.specs.Answer.{Answer, Condition, accepted, refused, isAccepted, condition, firstOf}
-use Rattle.compound.specs.declared.Entry.{Entry}
+use Rattle.enclosure.specs.declared.Entry.{Entry}
 use Rattle.compound.specs.declared.Reason.{Reason}
 use Rattle.compound.specs.declared.Reason.the-variants.{Order, Divisor, Term, Start as StartReason, Severities, Weights, Last, Room, Range, Bound}
 use Rattle.compound.specs.declared.CurveAnswer.{CurveAnswer}
 use Rattle.compound.specs.declared.CurveAnswer.the-variants.{Accepted, Refused}
-use Rattle.compound.specs.Entry.{unit, beyond, outOfRange, boundTooLarge}
+use Rattle.enclosure.specs.Entry.{unit, beyond, outOfRange, boundTooLarge}
 use Rattle.compound.specs.Curve.{Rows, curveRows}
 
 -- ---- the answer

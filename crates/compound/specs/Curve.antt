@@ -9,8 +9,8 @@ use Rattle.exact.specs.Severity.{totalWeight}
 use Rattle.model.specs.declared.Law.{Law}
 use Rattle.model.specs.declared.Start.{Start}
 use Rattle.model.specs.declared.Job.{Job}
-use Rattle.compound.specs.declared.Entry.{Entry}
-use Rattle.compound.specs.Entry.{none, sumOf, scaled, rounded}
+use Rattle.enclosure.specs.declared.Entry.{Entry}
+use Rattle.enclosure.specs.Entry.{none, sumOf, scaled, rounded}
 
 -- rows of entries: row j at total z
 abbrev pub Rows : Type 0

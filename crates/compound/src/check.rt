@@ -3,19 +3,18 @@
 use super::CurveAnswer;
 use super::Reason;
 use super::rows::WORK_COLUMNS;
-use super::rule::is_beyond;
+use enclosure::rule::is_beyond;
 use model::Job;
 use model::Law;
 use model::Start;
 ghost use mathlib.Core.Path.{_≡_};
 ghost use mathlib.Core.Bool.{_||_};
 ghost use Prim.Native.Nat.{_+_, _*_, _≤_, min};
-ghost use lib.IntN.{pos, natAbs};
-ghost use lib.ListN.{length};
+ghost use lib.IntN.{pos};
 ghost use Rattle.algebra.specs.Smallest.{smallest};
 ghost use Rattle.exact.specs.Severity.{totalWeight};
 ghost use Rattle.model.specs.Answer.{firstOf};
-ghost use Rattle.compound.specs.Entry.{beyond};
+ghost use Rattle.enclosure.specs.Entry.{beyond};
 ghost use Rattle.compound.specs.Call.{outside, termLimit, wrongTerm, wrongStart, tooShort, paper, checks, lentRows};
 
 // The largest sum of weights that is told apart: one more than a table may have.

@@ -1,13 +1,13 @@
 // The rows, filled total by total up to the first total that has a fault.
 
 use super::CurveAnswer;
-use super::Entry;
 use super::Reason;
 use super::check::total_weight;
 use super::rows::put;
-use super::rule::is_bound_too_large;
-use super::rule::is_out_of_range;
 use super::total::entry_at;
+use enclosure::Entry;
+use enclosure::rule::is_bound_too_large;
+use enclosure::rule::is_out_of_range;
 use model::Job;
 ghost use mathlib.Core.Path.{_≡_};
 ghost use mathlib.Core.Bool.{_||_};
@@ -16,7 +16,7 @@ ghost use lib.IntN.{pos};
 ghost use lib.ListN.{length, replicate};
 ghost use Rattle.algebra.specs.Slice.{written};
 ghost use Rattle.exact.specs.Severity.{totalWeight};
-ghost use Rattle.compound.specs.Entry.{outOfRange, boundTooLarge};
+ghost use Rattle.enclosure.specs.Entry.{outOfRange, boundTooLarge};
 ghost use Rattle.compound.specs.Curve.{entryAt};
 ghost use Rattle.model.specs.Answer.{firstOf};
 ghost use Rattle.compound.specs.Call.{lentRows, paper, faults};

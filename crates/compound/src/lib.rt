@@ -3,8 +3,6 @@
 mod check;
 mod fill;
 mod rows;
-mod rule;
-mod term;
 mod total;
 
 use model::Job;
@@ -12,13 +10,6 @@ ghost use mathlib.Core.Path.{_≡_};
 ghost use mathlib.Core.Bool.{not};
 ghost use Rattle.model.specs.Answer.{isAccepted};
 ghost use Rattle.compound.specs.Call.{lentRows, paper, curveAnswer, curveLent};
-
-// An entry of a row, in units.
-pub struct Entry {
-    pub low: i64,
-    pub high: i64,
-    pub bound: i64,
-}
 
 // Why the curve call refuses.
 pub enum Reason {

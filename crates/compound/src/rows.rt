@@ -1,13 +1,14 @@
 // Where the rows lie: row 0 in the three lent rows, a further row in three columns of the work row.
 
-use super::Entry;
-use super::term::Factor;
-use super::term::add_term;
+use enclosure::Entry;
+use enclosure::term::Factor;
+use enclosure::term::add_term;
 ghost use mathlib.Core.Path.{_≡_};
 ghost use Prim.Native.Nat.{_+_, _-_, _≤_, _<_};
 ghost use lib.ListN.{length, set};
 ghost use Rattle.compound.specs.Call.{lentRows};
-ghost use Rattle.compound.specs.Room.{Reachable, TermRoom, lineFactor, termSums, columnsAt, stored, placed};
+ghost use Rattle.enclosure.specs.Term.{TermRoom, lineFactor, termSums};
+ghost use Rattle.compound.specs.Room.{Reachable, columnsAt, stored, placed};
 
 // Low, high and bound.
 const COLUMNS: usize = 3;

@@ -1,9 +1,9 @@
 // The entries of one total, from the rows at earlier totals.
 
-use super::Entry;
 use super::rows::add_row;
-use super::rule::divide_sums;
-use super::term::Factor;
+use enclosure::Entry;
+use enclosure::rule::divide_sums;
+use enclosure::term::Factor;
 use model::Job;
 use model::Law;
 use model::Start;
@@ -12,10 +12,11 @@ ghost use Prim.Native.Nat.{_≤_, _<_, _^_};
 ghost use lib.IntN.{pos, natAbs};
 ghost use lib.ListN.{getD};
 ghost use Rattle.exact.specs.Severity.{totalWeight};
-ghost use Rattle.compound.specs.Entry.{none, rounded, unit};
+ghost use Rattle.enclosure.specs.Entry.{none, rounded, unit};
 ghost use Rattle.compound.specs.Curve.{firstEntry, sumsZero, sumsNext, divisorZero, entryAt};
 ghost use Rattle.compound.specs.Call.{lentRows};
-ghost use Rattle.compound.specs.Room.{Limits, Ready, Reachable, TermRoom, termFactor, weightAlone, stored};
+ghost use Rattle.enclosure.specs.Term.{TermRoom};
+ghost use Rattle.compound.specs.Room.{Limits, Ready, Reachable, termFactor, weightAlone, stored};
 
 // The factor of term `i` + 1: A x + B y, times w(y).
 fn term_factor(law: Law, x: usize, i: usize) -> Factor

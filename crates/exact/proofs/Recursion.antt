@@ -11,7 +11,7 @@ use Rattle.algebra.specs.Sum.{accumulate, sum}
 use Rattle.algebra.proofs.Semiring.{ring, ring-units, nat-zero, nat-mul}
 use Rattle.algebra.proofs.Ring.{int-pos, int-add, int-mul}
 use Rattle.algebra.proofs.Sum.{sum-zero, sum-cong, sum-scale, sum-cut}
-use Rattle.algebra.specs.Fraction.{Fraction, over, whole, overSuc, zeroTo}
+use Rattle.algebra.specs.Fraction.{Fraction, over, overSuc, zeroTo}
 use Rattle.exact.specs.Frequency.{Frequency, a, b, countCoefficient}
 use Rattle.exact.specs.Severity.{Severity, totalWeight, weight, density, convolution}
 use Rattle.exact.specs.Amount.{exactAmount}

@@ -1,5 +1,4 @@
 -- Division of an integer by a natural number of at least 1, rounded outward: down for a low, up for a high.
-use mathlib.Core.Path.{_≡_}
 use Prim.Native.Nat.{ℕ, _/_, _≤_}
 use lib.IntN.{ℤ, pos, negsuc, negℤ, _+ℤ_, _*ℤ_}
 use lib.Signed.{_≤ℤ_, _<ℤ_}

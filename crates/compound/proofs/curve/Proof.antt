@@ -2,14 +2,13 @@
 use borrow.Author.Needs.{needs}
 use borrow.Author.Tests.{not-true, not-false}
 use mathlib.Core.Path.{_≡_, sym, ap, _∙_}
-use mathlib.Core.Bool.{true, false, not}
 use mathlib.Core.List.{List, []}
 use Prim.Native.Nat.{ℕ, _+_, _≤_}
 use native.Mathlib.Omega.{arith}
 use lib.ListN.{length}
 use Rattle.model.specs.declared.Job.{Job}
 use Rattle.model.specs.Answer.{accepted, isAccepted, firstOf}
-use Rattle.compound.specs.Call.{Lent, lentRows, paper, checks, faults}
+use Rattle.compound.specs.Call.{Lent, lentRows, paper, checks}
 use Rattle.compound.specs.Room.{Limits, LongEnough, Filled}
 use Rattle.compound.proofs.Call.{checked-limits}
 use Rattle.compound.proofs.Returned.{accepted-paper, early-answer, early-rows, late-answer, fault-rows, end-rows}

@@ -11,10 +11,10 @@ use mir.Val.{toZ, ofZ}
 use mir.Facts.{toZ-ofZ}
 use Rattle.algebra.proofs.Integer.{signed}
 use Rattle.algebra.proofs.Size.{held}
-use Rattle.compound.specs.Entry.{beyond}
+use Rattle.enclosure.specs.Entry.{beyond}
 use Rattle.compound.specs.Call.{termLimit}
 use Rattle.compound.proofs.Call.{limit-most}
-use Rattle.compound.proofs.Tests.{or-yes, or-no}
+use Rattle.algebra.proofs.Or.{or-yes, or-no}
 use Rattle.compound.proofs.check.is_wrong_term.Statement.{statement}
 use Rattle.compound.proofs.check.is_wrong_term.Tie as tie
 

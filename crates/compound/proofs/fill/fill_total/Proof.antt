@@ -1,7 +1,7 @@
 -- Before each row the rows below it are put and their faults noted; an entry is computed from the rows as they then are.
 use borrow.Author.Needs.{needs}
-use mathlib.Core.Path.{_≡_, refl, sym, ap, _∙_, subst}
-use Prim.Native.Nat.{_≤_, _<_, _-_, _+_}
+use mathlib.Core.Path.{_≡_, sym, _∙_, subst}
+use Prim.Native.Nat.{_≤_, _-_, _+_}
 use native.Mathlib.Omega.{arith}
 use Rattle.compound.specs.Curve.{Rows, entryAt}
 use Rattle.compound.specs.Call.{Lent, lentRows}

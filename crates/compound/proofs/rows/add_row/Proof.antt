@@ -1,13 +1,11 @@
 -- Row 0 is read where it is lent; the columns of a further row are parts of the work row, and hold what is stored of it below x.
 use borrow.Author.Needs.{needs}
-use mathlib.Core.Path.{_≡_, sym, _∙_, ap}
-use Prim.Native.Nat.{ℕ, suc, _+_, _-_, _≤_, _<_}
+use mathlib.Core.Path.{_≡_, sym, _∙_}
+use Prim.Native.Nat.{ℕ, _+_, _-_, _≤_, _<_}
 use native.Mathlib.Omega.{arith}
 use lib.ListN.{length, take, drop}
-use lib.Seq.{length-take-le}
-use Rattle.compound.specs.declared.Entry.{Entry}
 use Rattle.compound.specs.Call.{Lent, lentRows}
-use Rattle.compound.specs.Room.{Reachable, columnsAt, stored}
+use Rattle.compound.specs.Room.{stored}
 use Rattle.compound.proofs.Stored.{columns-in, partsAt, part-length, parts-stored, term-cong, room-cong}
 use Rattle.compound.proofs.rows.add_row.Statement.{statement}
 use Rattle.compound.proofs.rows.add_row.Tie as tie

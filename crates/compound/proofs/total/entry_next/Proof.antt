@@ -1,13 +1,11 @@
 -- The term whose factor is the weight makes the sums of the next row (`next-is`), and these are divided.
 use borrow.Author.Needs.{needs}
-use mathlib.Core.Path.{_≡_, _∙_, ap}
+use mathlib.Core.Path.{_∙_, ap}
 use native.Mathlib.Omega.{arith}
-use Rattle.compound.specs.declared.Entry.{Entry}
-use Rattle.compound.specs.Entry.{rounded}
-use Rattle.compound.specs.Curve.{sumsNext}
+use Rattle.enclosure.specs.Entry.{rounded}
 use Rattle.compound.specs.Call.{lentRows}
 use Rattle.compound.specs.Room.{stored, weightAlone}
-use Rattle.compound.proofs.Sizes.{term-size, quotient-fits}
+use Rattle.enclosure.proofs.Sizes.{term-size, quotient-fits}
 use Rattle.compound.proofs.Sums.{next-is}
 use Rattle.compound.proofs.total.entry_next.Statement.{statement}
 use Rattle.compound.proofs.total.entry_next.Tie as tie

@@ -1,11 +1,11 @@
 -- The divisor is at least 1 and at most 1,000 times 500 times 1,000; the sums are divided by it.
 use borrow.Author.Needs.{needs}
-use mathlib.Core.Path.{_≡_, _∙_, ap₂}
+use mathlib.Core.Path.{_∙_, ap₂}
 use Prim.Native.Nat.{ℕ, _*_, _≤_}
 use native.Mathlib.Nat.{mul-pos, mul-le-mul}
 use native.Mathlib.Omega.{arith}
-use Rattle.compound.specs.declared.Entry.{Entry}
-use Rattle.compound.specs.Entry.{rounded}
+use Rattle.enclosure.specs.declared.Entry.{Entry}
+use Rattle.enclosure.specs.Entry.{rounded}
 use Rattle.compound.proofs.Sums.{zero-fits}
 use Rattle.compound.proofs.total.entry_zero.Statement.{statement}
 use Rattle.compound.proofs.total.entry_zero.Tie as tie

@@ -1,15 +1,14 @@
 -- The start's numbers fit as they are at most U; a further row has zeros.
 use borrow.Author.Needs.{needs}
-use mathlib.Core.Path.{_≡_, refl, sym, ap, _∙_}
-use Prim.Native.Nat.{ℕ}
+use mathlib.Core.Path.{_≡_, sym, ap, _∙_}
 use native.Mathlib.Omega.{arith}
 use lib.IntN.{pos, _-ℤ_}
 use mir.Syntax.{w64}
-use mir.Val.{SFits, toZ, ofZ}
+use mir.Val.{SFits, toZ}
 use mir.Facts.{toZ-ofZ, toZ-pos}
 use Rattle.algebra.proofs.Size.{size-sub, size-fits}
 use Rattle.compound.specs.Curve.{firstEntry}
-use Rattle.compound.proofs.Scaled.{same-entry}
+use Rattle.enclosure.proofs.Scaled.{same-entry}
 use Rattle.compound.proofs.Recursion.{suc-pred}
 use Rattle.compound.proofs.total.first_entry.Statement.{statement}
 use Rattle.compound.proofs.total.first_entry.Tie as tie

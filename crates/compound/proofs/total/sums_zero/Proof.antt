@@ -1,10 +1,10 @@
 -- After i terms the sums are those of the definition's first i terms; the next turn adds the next term's.
 use borrow.Author.Needs.{needs}
 use mathlib.Core.Path.{_≡_, sym, _∙_}
-use Prim.Native.Nat.{ℕ, _≤_, _-_}
+use Prim.Native.Nat.{_≤_, _-_}
 use native.Mathlib.Omega.{arith}
 use Rattle.algebra.proofs.Sum.{accumulate-zero}
-use Rattle.compound.specs.Entry.{none, plus}
+use Rattle.enclosure.specs.Entry.{none, plus}
 use Rattle.compound.specs.Call.{lentRows}
 use Rattle.compound.specs.Room.{stored}
 use Rattle.compound.proofs.Sums.{termsBelow, terms-more, terms-all, reachable, a-most, term-room}

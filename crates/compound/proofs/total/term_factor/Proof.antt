@@ -8,7 +8,7 @@ use mir.Syntax.{w64}
 use mir.Val.{SFits, toZ, ofZ}
 use mir.Facts.{toZ-ofZ, toZ-pos}
 use Rattle.algebra.proofs.Size.{size-mul-le, size-fits}
-use Rattle.compound.specs.declared.term.Factor.{Factor}
+use Rattle.enclosure.specs.declared.term.Factor.{Factor}
 use Rattle.compound.proofs.total.term_factor.Statement.{statement}
 use Rattle.compound.proofs.total.term_factor.Tie as tie
 

@@ -1,9 +1,9 @@
 -- By the factor's sign: what stands in each field is the definition's, since every number on the way fits.
 use borrow.Author.Needs.{needs}
 use mir.Facts.{toZ-ofZ}
-use Rattle.compound.proofs.Scaled.{same-entry, scaled-below, scaled-above}
-use Rattle.compound.proofs.rule.add_scaled.Statement.{statement}
-use Rattle.compound.proofs.rule.add_scaled.Tie as tie
+use Rattle.enclosure.proofs.Scaled.{same-entry, scaled-below, scaled-above}
+use Rattle.enclosure.proofs.rule.add_scaled.Statement.{statement}
+use Rattle.enclosure.proofs.rule.add_scaled.Tie as tie
 
 returns : tie.Need-returns
 returns c =

@@ -6,7 +6,7 @@ use lib.IntN.{ℤ, pos, negsuc, natAbs, _+ℤ_, _*ℤ_}
 use lib.Signed.{ltZ}
 use Rattle.algebra.specs.Sum.{accumulate}
 use Rattle.outward.specs.Division.{floorDiv, ceilDiv}
-use Rattle.compound.specs.declared.Entry.{Entry}
+use Rattle.enclosure.specs.declared.Entry.{Entry}
 
 -- ---- sums of entries, column by column
 abbrev pub none : Entry

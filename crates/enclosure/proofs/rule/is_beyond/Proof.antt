@@ -7,9 +7,10 @@ use mir.Syntax.{w64}
 use mir.Val.{SFits}
 use mir.Facts.{toZ-ofZ}
 use Rattle.algebra.proofs.Size.{size-sub, size-fits}
-use Rattle.compound.proofs.Tests.{or-yes, or-no, beyond-is}
-use Rattle.compound.proofs.rule.is_beyond.Statement.{statement}
-use Rattle.compound.proofs.rule.is_beyond.Tie as tie
+use Rattle.algebra.proofs.Or.{or-yes, or-no}
+use Rattle.enclosure.proofs.Tests.{beyond-is}
+use Rattle.enclosure.proofs.rule.is_beyond.Statement.{statement}
+use Rattle.enclosure.proofs.rule.is_beyond.Tie as tie
 
 least-fits : (c : tie.Start) → SFits w64 (pos 0 -ℤ c .args .limit)
 least-fits c = size-fits w64 _ (omega (arith, size-sub (pos 0) (c .args .limit), c .pre .1))

@@ -5,12 +5,12 @@ ghost use mathlib.Core.Path.{_≡_};
 ghost use mathlib.Core.Bool.{_||_};
 ghost use Prim.Native.Nat.{_≤_, _<_, _*_, _^_};
 ghost use lib.IntN.{pos, natAbs, _+ℤ_};
-ghost use lib.Signed.{ltZ, _≤ℤ_};
+ghost use lib.Signed.{_≤ℤ_};
 ghost use mir.Syntax.{w64};
 ghost use mir.Val.{SFits};
 ghost use Rattle.outward.specs.Division.{ceilDiv};
-ghost use Rattle.compound.specs.Entry.{plus, scaled, allowance, rounded, unit, beyond, outOfRange, boundTooLarge};
-ghost use Rattle.compound.specs.Room.{AddRoom};
+ghost use Rattle.enclosure.specs.Entry.{plus, scaled, rounded, beyond, outOfRange, boundTooLarge};
+ghost use Rattle.enclosure.specs.Term.{AddRoom};
 
 const UNIT: i64 = 1_000_000_000;
 

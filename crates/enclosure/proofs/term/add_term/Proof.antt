@@ -12,11 +12,11 @@ use mir.Facts.{toZ-ofZ}
 use Rattle.algebra.specs.Sum.{accumulate}
 use Rattle.algebra.proofs.Sum.{accumulate-next}
 use Rattle.algebra.proofs.Size.{size-fits, held}
-use Rattle.compound.specs.Entry.{plus, scaled}
-use Rattle.compound.specs.Room.{entryOf, lineFactor}
-use Rattle.compound.proofs.Sizes.{factor-room, add-room}
-use Rattle.compound.proofs.term.add_term.Statement.{statement}
-use Rattle.compound.proofs.term.add_term.Tie as tie
+use Rattle.enclosure.specs.Entry.{plus, scaled}
+use Rattle.enclosure.specs.Term.{entryOf, lineFactor}
+use Rattle.enclosure.proofs.Sizes.{factor-room, add-room}
+use Rattle.enclosure.proofs.term.add_term.Statement.{statement}
+use Rattle.enclosure.proofs.term.add_term.Tie as tie
 
 abbrev Inv-loop : tie.InvT-loop
 Inv-loop factor x weights low high bound sums₀ last i₀ sums i = (i ≤ last)

@@ -6,10 +6,10 @@ use mir.Val.{SFits, toZ, ofZ}
 use mir.Facts.{toZ-ofZ}
 use Rattle.outward.specs.Division.{ceilDiv}
 use Rattle.algebra.proofs.Size.{held}
-use Rattle.compound.specs.Entry.{rounded}
-use Rattle.compound.proofs.Scaled.{same-entry}
-use Rattle.compound.proofs.rule.divide_sums.Statement.{statement}
-use Rattle.compound.proofs.rule.divide_sums.Tie as tie
+use Rattle.enclosure.specs.Entry.{rounded}
+use Rattle.enclosure.proofs.Scaled.{same-entry}
+use Rattle.enclosure.proofs.rule.divide_sums.Statement.{statement}
+use Rattle.enclosure.proofs.rule.divide_sums.Tie as tie
 
 -- the bound's quotient
 bound-is : (c : tie.After-ceil-div) → toZ w64 (ofZ w64 (c .ceil-div .result))

@@ -3,12 +3,9 @@
 use super::Entry;
 use super::rule::add_scaled;
 ghost use mathlib.Core.Path.{_≡_};
-ghost use Prim.Native.Nat.{_+_, _-_, _*_, _<_, _≤_, _^_, min};
-ghost use lib.IntN.{pos, natAbs, _+ℤ_, _*ℤ_};
+ghost use Prim.Native.Nat.{_+_, _-_, _*_, _<_, _≤_, min};
 ghost use lib.ListN.{length};
-ghost use Rattle.algebra.specs.Sum.{accumulate};
-ghost use Rattle.compound.specs.Entry.{plus, scaled};
-ghost use Rattle.compound.specs.Room.{Small, FactorRoom, TermRoom, factorOf, lineFactor, entryOf, termSums};
+ghost use Rattle.enclosure.specs.Term.{FactorRoom, TermRoom, factorOf, lineFactor, entryOf, termSums};
 
 // What multiplies the entry at x - y: (`constant` + `slope` times y) times w(y).
 pub struct Factor {

@@ -1,13 +1,13 @@
 -- A factor times an entry, by the factor's sign, as the code tests it.
-use mathlib.Core.Path.{_≡_, refl, sym, ap}
+use mathlib.Core.Path.{_≡_, refl}
 use mathlib.Core.Bool.{true, false, true≢false}
-use Prim.Native.Nat.{ℕ, zero, suc}
+use Prim.Native.Nat.{suc}
 use native.Mathlib.Omega.{arith}
 use borrow.Author.Tests.{ltb-true}
-use lib.IntN.{ℤ, pos, negsuc, negℤ, natAbs, _*ℤ_, negℤ-negℤ}
+use lib.IntN.{ℤ, pos, negsuc, negℤ, _*ℤ_}
 use lib.Signed.{ltZ}
-use Rattle.compound.specs.declared.Entry.{Entry}
-use Rattle.compound.specs.Entry.{scaled}
+use Rattle.enclosure.specs.declared.Entry.{Entry}
+use Rattle.enclosure.specs.Entry.{scaled}
 use Rattle.algebra.proofs.Integer.{signed, split-mul, split-neg}
 
 pub same-entry : {l l′ h h′ b b′ : ℤ} → l ≡ l′ → h ≡ h′ → b ≡ b′

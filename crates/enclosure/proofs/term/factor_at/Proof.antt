@@ -1,8 +1,8 @@
 -- Every number on the way fits, as the contract asks.
 use borrow.Author.Needs.{needs}
 use mir.Facts.{toZ-pos}
-use Rattle.compound.proofs.term.factor_at.Statement.{statement}
-use Rattle.compound.proofs.term.factor_at.Tie as tie
+use Rattle.enclosure.proofs.term.factor_at.Statement.{statement}
+use Rattle.enclosure.proofs.term.factor_at.Tie as tie
 
 pub factor-at-spec : {M : Type 1} → statement M
 factor-at-spec =

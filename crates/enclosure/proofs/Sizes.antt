@@ -1,8 +1,8 @@
 -- Sizes: under the limits every number on the way to a term's sums fits 64 bits. A term adds, for each unit of weight, at most 10^6 times
 -- an entry, so each sum grows by at most 10^6 times W times the largest entry.
-use mathlib.Core.Path.{_≡_, refl, sym, ap, _∙_}
+use mathlib.Core.Path.{_≡_, refl}
 use mathlib.Core.List.{List, [], _∷_}
-use Prim.Native.Nat.{ℕ, zero, suc, _+_, _-_, _*_, _≤_, _<_, _^_, min, zero-le}
+use Prim.Native.Nat.{ℕ, zero, suc, _+_, _-_, _*_, _≤_, _<_, min, zero-le}
 use native.Mathlib.Nat as NL
 use native.Mathlib.Omega.{arith}
 use lib.IntN.{ℤ, pos, negsuc, natAbs, _+ℤ_, _-ℤ_, _*ℤ_}
@@ -16,10 +16,10 @@ use Rattle.algebra.proofs.Size.{size-add, size-sub, size-mul-le, size-fits}
 use Rattle.exact.specs.Severity.{totalWeight}
 use Rattle.outward.specs.Division.{ceilDiv}
 use Rattle.outward.proofs.Division.{ceil-size}
-use Rattle.compound.specs.declared.Entry.{Entry}
-use Rattle.compound.specs.declared.term.Factor.{Factor}
-use Rattle.compound.specs.Entry.{unit, plus, scaled}
-use Rattle.compound.specs.Room.{AddRoom, FactorRoom, TermRoom, Small, factorOf, lineFactor, termSums}
+use Rattle.enclosure.specs.declared.Entry.{Entry}
+use Rattle.enclosure.specs.declared.term.Factor.{Factor}
+use Rattle.enclosure.specs.Entry.{unit, plus, scaled}
+use Rattle.enclosure.specs.Term.{AddRoom, FactorRoom, TermRoom, Small, lineFactor, termSums}
 
 -- ---- weights
 -- the first n weights are no more than all of them

@@ -5,10 +5,10 @@ use Prim.Native.Nat.{_*_}
 use mir.Syntax.{w64}
 use mir.Val.{SFits}
 use mir.Facts.{toZ-ofZ}
-use Rattle.compound.specs.Entry.{unit, beyond}
-use Rattle.compound.proofs.Tests.{or-yes, or-no}
-use Rattle.compound.proofs.rule.is_out_of_range.Statement.{statement}
-use Rattle.compound.proofs.rule.is_out_of_range.Tie as tie
+use Rattle.enclosure.specs.Entry.{unit, beyond}
+use Rattle.algebra.proofs.Or.{or-yes, or-no}
+use Rattle.enclosure.proofs.rule.is_out_of_range.Statement.{statement}
+use Rattle.enclosure.proofs.rule.is_out_of_range.Tie as tie
 
 -- the answer of the first call
 first-is : (c : tie.After-is-beyond) → c .is-beyond .result ≡ beyond (2 * unit) (c .before .before .args .entry .low)

@@ -1,0 +1,10 @@
+#include <stddef.h>
+#include <stdint.h>
+
+typedef struct {
+    uint64_t order, divisor;
+    int64_t a[4], b[4];
+    uint64_t low, high, last;
+} PlainJob;
+
+uint64_t plain_curve(const PlainJob *job, const uint64_t *weights, size_t m, int64_t *low, int64_t *high, int64_t *bound, int64_t *work);
