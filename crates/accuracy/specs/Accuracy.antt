@@ -73,7 +73,8 @@ abbrev pub Encloses : Type 0
 Encloses = (job : Job) (weights : List ℕ) (lent : Lent) → Accepted job weights lent
     → (h : Divisible job weights) (x : ℕ) → x ≤ job .last
     → (p : Fraction) → whole (pos (job .start .low)) ≼ p → p ≼ whole (pos (job .start .high))
-    → (whole (shown job weights lent x .low) ≼ amount job weights h p x) × (amount job weights h p x ≼ whole (shown job weights lent x .high))
+    → (whole (shown job weights lent x .low) ≼ amount job weights h p x)
+    × (amount job weights h p x ≼ whole (shown job weights lent x .high))
 
 -- high minus low is at most the bound
 abbrev pub GapWithinBound : Type 0

@@ -8,7 +8,8 @@ use native.Mathlib.Numerals.{add-one}
 use native.Mathlib.Omega.{arith}
 use lib.ListN.{length, set, getD, drop, length-append, length-drop, List·getD-append}
 use lib.Seq.{getD-at, take-all, drop-cons, set-append-seam, drop-append-add, drop-drop}
-use Rattle.algebra.specs.Slice.{listed, written, DropNext, PartToEnd, ListedLength, ListedAt, WrittenLength, WrittenNext, WrittenAgain}
+use Rattle.algebra.specs.Slice.{listed, written, DropNext, PartToEnd, ListedLength, ListedAt}
+use Rattle.algebra.specs.Slice.{WrittenLength, WrittenNext, WrittenAgain}
 
 module _ {A : Type 0} where
   pub drop-next : DropNext A

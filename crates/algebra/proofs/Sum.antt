@@ -27,7 +27,8 @@ unfolding accumulate
 accumulate-next 𝟘 plus n f = ap (λ (m : ℕ). accumulate 𝟘 plus m f) (sym (add-one n))
 
 -- a sum that starts at a, apart from a
-pub accumulate-from : {A : Type 0} (𝟘 : A) (plus : A → A → A) → ((a b c : A) → plus (plus a b) c ≡ plus a (plus b c)) → ((a : A) → plus a 𝟘 ≡ a)
+pub accumulate-from : {A : Type 0} (𝟘 : A) (plus : A → A → A)
+    → ((a b c : A) → plus (plus a b) c ≡ plus a (plus b c)) → ((a : A) → plus a 𝟘 ≡ a)
     → (a : A) (n : ℕ) (f : ℕ → A) → accumulate a plus n f ≡ plus a (accumulate 𝟘 plus n f)
 unfolding accumulate
 accumulate-from 𝟘 plus assoc unit a zero f = sym (unit a)

@@ -67,7 +67,8 @@ module _ (job : Job) (weights : List ℕ) (places x : ℕ) (lent₀ : Lent) (rea
 
     placed-kept : (j : ℕ) (e : Entry) → Reachable places x lent j
         → Kept (x + 1) (placed places lent j x e .low) (lent₀ .low) × Kept (x + 1) (placed places lent j x e .high) (lent₀ .high)
-        × Kept (x + 1) (placed places lent j x e .bound) (lent₀ .bound) × Kept (workPlaces places) (placed places lent j x e .work) (lent₀ .work)
+        × Kept (x + 1) (placed places lent j x e .bound) (lent₀ .bound)
+        × Kept (workPlaces places) (placed places lent j x e .work) (lent₀ .work)
     placed-kept zero e h = (
       kept-set (x + 1) (lent .low) (lent₀ .low) x (e .low) (omega arith) (so-far .low-kept),
       kept-set (x + 1) (lent .high) (lent₀ .high) x (e .high) (omega arith) (so-far .high-kept),
@@ -97,19 +98,23 @@ module _ (job : Job) (weights : List ℕ) (places x : ℕ) (lent₀ : Lent) (rea
           high-kept = kept .1;
           bound-kept = kept .2;
           work-kept = kept .3;
-          earlier = λ j z k l. placed-other places lent x e n j z (reach .total-below) (omega (arith, reach .total-below)) (λ p q. omega arith)
+          earlier = λ j z k l.
+              placed-other places lent x e n j z (reach .total-below) (omega (arith, reach .total-below)) (λ p q. omega arith)
               ∙ so-far .earlier j z k l;
           entries = λ j l. by reach j (NL.eq-or-lt-of-le (omega arith));
         }
       where
         by : Reachable places x lent n → (j : ℕ) → (j ≡ n) ⊎ (j < n)
             → stored places (placed places lent n x e) j x ≡ entryAt job weights (stored places lent₀) j x
-        by reach j (inl p) = subst (λ (k : ℕ). stored places (placed places lent n x e) k x ≡ entryAt job weights (stored places lent₀) k x) (sym p)
+        by reach j (inl p) = subst
+            (λ (k : ℕ). stored places (placed places lent n x e) k x ≡ entryAt job weights (stored places lent₀) k x) (sym p)
             (placed-own places lent x e n reach ∙ rule ∙ entry-same n h)
-        by reach j (inr l) = placed-other places lent x e n j x (reach .total-below) (reach .total-below) (λ p q. omega arith) ∙ so-far .entries j l
+        by reach j (inr l) =
+            placed-other places lent x e n j x (reach .total-below) (reach .total-below) (λ p q. omega arith) ∙ so-far .entries j l
 
 -- ---- faults, noted row by row
-pub same-faults : {p p′ q q′ : Bool} → p ≡ p′ → q ≡ q′ → _≡_ {A = Faults} (record { range = p; bound = q }) (record { range = p′; bound = q′ })
+pub same-faults : {p p′ q q′ : Bool} → p ≡ p′ → q ≡ q′
+    → _≡_ {A = Faults} (record { range = p; bound = q }) (record { range = p′; bound = q′ })
 same-faults p q = λ i. record { range = p i; bound = q i }
 
 module _ (rows : Rows) (x : ℕ) where
@@ -121,4 +126,5 @@ module _ (rows : Rows) (x : ℕ) where
       → record { range = faults .range || outOfRange e; bound = faults .bound || boundTooLarge e } ≡ faultsBelow (n + 1) rows x
   faults-more n faults e p q =
       ap₂ (λ (f : Faults) (e : Entry). record { range = f .range || outOfRange e; bound = f .bound || boundTooLarge e }) p q
-      ∙ same-faults (accumulate-next false _||_ n (λ j. outOfRange (rows j x))) (accumulate-next false _||_ n (λ j. boundTooLarge (rows j x)))
+      ∙ same-faults (accumulate-next false _||_ n (λ j. outOfRange (rows j x)))
+      (accumulate-next false _||_ n (λ j. boundTooLarge (rows j x)))

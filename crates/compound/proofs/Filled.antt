@@ -89,8 +89,12 @@ kept-further m n row row₀ h k = record {
     further : (row : List ℤ) → drop n row ≡ drop (n - m) (drop m row)
     further row = ap (λ (i : ℕ). drop i row) apart ∙ sym (drop-drop (n - m) m row)
 
-kept-trans : (n : ℕ) (row row₁ row₀ : List ℤ) → Kept n row row₁ → Kept n row₁ row₀ → Kept n row row₀
-kept-trans n row row₁ row₀ p q = record { same-length = p .same-length ∙ q .same-length; later = p .later ∙ q .later }
+-- a total is written, and then the next: from n on both leave what was there
+kept-step : (x n : ℕ) (row row₁ row₀ : List ℤ) → x + 1 ≤ n → Kept (x + 1) row row₁ → Kept x row₁ row₀ → Kept n row row₀
+kept-step x n row row₁ row₀ h p q =
+    let next = kept-further (x + 1) n row row₁ h p in
+    let first = kept-further x n row₁ row₀ (omega arith) q in
+    record { same-length = next .same-length ∙ first .same-length; later = next .later ∙ first .later }
 
 -- ---- what is known where total x is reached: below it the rows hold the curve, without a fault
 pub record Reached (job : Job) (weights : List ℕ) (lent₀ : Lent) (x : ℕ) (lent : Lent) : Type 0 where
@@ -194,13 +198,19 @@ module _ (job : Job) (weights : List ℕ) (limits : Limits job weights) where
         (accumulate-cong false _||_ order (λ j l. ap boundTooLarge (rule-curve j l)))
 
     module _ (lent′ : Lent) (step : Advanced job weights places x order lent lent′) where
+      work-twice : Kept (workPlaces places) (lent′ .work) (lent₀ .work)
+      work-twice = record {
+        same-length = step .work-kept .same-length ∙ here .work-kept .same-length;
+        later = step .work-kept .later ∙ here .work-kept .later;
+      }
+
       -- one total more, where it has no fault
       pub reached-next : faultAt order curve x ≡ false → Reached job weights lent₀ (x + 1) lent′
       reached-next e = record {
-        low-kept = kept-trans (x + 1) _ _ _ (step .low-kept) (kept-further x (x + 1) _ _ (omega arith) (here .low-kept));
-        high-kept = kept-trans (x + 1) _ _ _ (step .high-kept) (kept-further x (x + 1) _ _ (omega arith) (here .high-kept));
-        bound-kept = kept-trans (x + 1) _ _ _ (step .bound-kept) (kept-further x (x + 1) _ _ (omega arith) (here .bound-kept));
-        work-kept = kept-trans (workPlaces places) _ _ _ (step .work-kept) (here .work-kept);
+        low-kept = kept-step x (x + 1) _ _ _ (NL.le-refl (x + 1)) (step .low-kept) (here .low-kept);
+        high-kept = kept-step x (x + 1) _ _ _ (NL.le-refl (x + 1)) (step .high-kept) (here .high-kept);
+        bound-kept = kept-step x (x + 1) _ _ _ (NL.le-refl (x + 1)) (step .bound-kept) (here .bound-kept);
+        work-kept = work-twice;
         entries = λ j z h l. entry j z h (NL.eq-or-lt-of-le (omega arith));
         sound = λ z l. passes z (NL.eq-or-lt-of-le (omega arith));
       }
@@ -216,10 +226,10 @@ module _ (job : Job) (weights : List ℕ) (limits : Limits job weights) where
       -- the rows at a total that has a fault
       pub filled-fault : x < places → isAccepted (firstOf (faults job weights)) ≡ false → Filled job weights lent₀ lent′
       filled-fault h e = record {
-        low-kept = kept-trans places _ _ _ (kept-further (x + 1) places _ _ (omega arith) (step .low-kept)) (kept-further x places _ _ (omega arith) (here .low-kept));
-        high-kept = kept-trans places _ _ _ (kept-further (x + 1) places _ _ (omega arith) (step .high-kept)) (kept-further x places _ _ (omega arith) (here .high-kept));
-        bound-kept = kept-trans places _ _ _ (kept-further (x + 1) places _ _ (omega arith) (step .bound-kept)) (kept-further x places _ _ (omega arith) (here .bound-kept));
-        work-kept = kept-trans (workPlaces places) _ _ _ (step .work-kept) (here .work-kept);
+        low-kept = kept-step x places _ _ _ (omega arith) (step .low-kept) (here .low-kept);
+        high-kept = kept-step x places _ _ _ (omega arith) (step .high-kept) (here .high-kept);
+        bound-kept = kept-step x places _ _ _ (omega arith) (step .bound-kept) (here .bound-kept);
+        work-kept = work-twice;
         curve = λ t. absurd (true≢false (sym t ∙ e));
       }
 

@@ -69,4 +69,5 @@ module _ {B : Type 0} {Rel : Entry → B → Type 0} (keeps : Preserved B Rel) w
           (rule .row-next j x h)
 
       pub all-preserved : (x : ℕ) → At x
-      all-preserved = strong At (λ x before j h. subst (λ e. Rel e (rows j x)) (sym (curve-rule job weights j x h)) (entry-preserved j x h before))
+      all-preserved = strong At (λ x before j h.
+          subst (λ e. Rel e (rows j x)) (sym (curve-rule job weights j x h)) (entry-preserved j x h before))

@@ -85,7 +85,8 @@ module _ (job : Job) (weights : List ℕ) (lent₀ : Lent) where
     early = ap isAccepted (sym is) ∙ refuses
 
     pub early-answer : answer ≡ curveAnswer job weights lent₀
-    early-answer = is ∙ sym (by-checks ∙ ap (λ (b : Bool). cond b (firstOf (faults job weights)) (firstOf (checks job weights lent₀))) early)
+    early-answer = is ∙ sym (by-checks
+        ∙ ap (λ (b : Bool). cond b (firstOf (faults job weights)) (firstOf (checks job weights lent₀))) early)
 
     pub early-rows : lent₀ ≡ curveLent job weights lent₀
     unfolding curveLent
@@ -130,10 +131,12 @@ module _ (job : Job) (weights : List ℕ) (lent₀ : Lent) where
       end-rows long e =
           same-lent (held (λ e. e .low) _ _ (long .low-long) (filled .low-kept) (λ z l. ap (λ (e : Entry). e .low) (filled .curve e z l)))
           (held (λ e. e .high) _ _ (long .high-long) (filled .high-kept) (λ z l. ap (λ (e : Entry). e .high) (filled .curve e z l)))
-          (held (λ e. e .bound) _ _ (long .bound-long) (filled .bound-kept) (λ z l. ap (λ (e : Entry). e .bound) (filled .curve e z l))) work-zeros
+          (held (λ e. e .bound) _ _ (long .bound-long) (filled .bound-kept) (λ z l. ap (λ (e : Entry). e .bound) (filled .curve e z l)))
+          work-zeros
           ∙ late-rows
         where
           held : (column : Entry → ℤ) (row row₀ : List ℤ) → places ≤ length row₀ → Kept places row row₀
-              → ((z : ℕ) → z < places → getD row z (pos 0) ≡ column (curveRows job weights 0 z)) → row ≡ written (rowAfter column job weights) row₀
+              → ((z : ℕ) → z < places → getD row z (pos 0) ≡ column (curveRows job weights 0 z))
+              → row ≡ written (rowAfter column job weights) row₀
           held column row row₀ h k at = kept-listed (λ z. column (curveRows job weights 0 z)) row row₀ places h k at
               ∙ ap (λ (front : List ℤ). written front row₀) (row-after column true e)

@@ -17,12 +17,14 @@ use Rattle.enclosure.specs.Entry.{plus, scaled}
 use Rattle.compound.specs.Call.{Lent, lentRows, workPlaces}
 use Rattle.compound.proofs.Recursion.{suc-pred}
 use Rattle.enclosure.specs.Term.{Small, TermRoom, termSums, entryOf}
-use Rattle.compound.specs.Room.{Reachable, columnsAt, stored, placed}
+use Rattle.compound.specs.Room.{Reachable, columnsAt, stored, putColumns, placed}
 
 -- ---- a term reads its row below x alone
 module _ (x : ℕ) (row row′ : ℕ → Entry) (same : (z : ℕ) → z < x → row z ≡ row′ z) where
-  pub term-cong : (sums : Entry) (factor : ℕ → ℤ) (weights : List ℕ) → termSums sums factor x weights row ≡ termSums sums factor x weights row′
-  term-cong sums factor weights = accumulate-cong sums plus (min x (length weights)) (λ y l. ap (scaled (factor y)) (same (x - (y + 1)) (omega arith)))
+  pub term-cong : (sums : Entry) (factor : ℕ → ℤ) (weights : List ℕ)
+      → termSums sums factor x weights row ≡ termSums sums factor x weights row′
+  term-cong sums factor weights = accumulate-cong sums plus (min x (length weights)) (λ y l.
+      ap (scaled (factor y)) (same (x - (y + 1)) (omega arith)))
 
   pub room-cong : (sums : Entry) (f : Factor) (weights : List ℕ) → TermRoom sums f x weights row → TermRoom sums f x weights row′
   room-cong sums f weights h = record {
@@ -79,12 +81,9 @@ part-length work at n h = length-take-le (at + n - at) (drop at work) (rw (lengt
 pub same-lent : {l l′ h h′ b b′ w w′ : List ℤ} → l ≡ l′ → h ≡ h′ → b ≡ b′ → w ≡ w′ → lentRows l h b w ≡ lentRows l′ h′ b′ w′
 same-lent p q r s = λ i. lentRows (p i) (q i) (r i) (s i)
 
--- the work row with an entry put at total x of the columns that begin at a place
-abbrev pub putColumns : List ℤ → ℕ → ℕ → ℕ → Entry → List ℤ
-putColumns work at n x e = set (set (set work (at + x) (e .low)) (at + n + x) (e .high)) (at + n + n + x) (e .bound)
-
 pub placed-first : (places : ℕ) (lent : Lent) (j x : ℕ) (e : Entry) → j ≡ 0
-    → lentRows (set (lent .low) x (e .low)) (set (lent .high) x (e .high)) (set (lent .bound) x (e .bound)) (lent .work) ≡ placed places lent j x e
+    → lentRows (set (lent .low) x (e .low)) (set (lent .high) x (e .high)) (set (lent .bound) x (e .bound)) (lent .work)
+    ≡ placed places lent j x e
 placed-first places lent j x e h = ap (λ (k : ℕ). placed places lent k x e) (sym h)
 
 pub placed-further : (places : ℕ) (lent : Lent) (j at x : ℕ) (e : Entry) → (j ≡ 0 → ⊥) → at ≡ columnsAt places (j - 1)
@@ -114,7 +113,8 @@ module _ (n : ℕ) (work : List ℤ) (j x : ℕ) (e : Entry) (hx : x < n) where
   put-other : (k : ℕ) → (k ≡ columnsAt n j + x → ⊥) → (k ≡ columnsAt n j + n + x → ⊥) → (k ≡ columnsAt n j + n + n + x → ⊥)
       → getD (putColumns work (columnsAt n j) n x e) k (pos 0) ≡ getD work k (pos 0)
   put-other k low high bound =
-      getD-set-other (set (set work (columnsAt n j + x) (e .low)) (columnsAt n j + n + x) (e .high)) (columnsAt n j + n + n + x) k (e .bound) (pos 0) bound
+      getD-set-other (set (set work (columnsAt n j + x) (e .low)) (columnsAt n j + n + x) (e .high))
+      (columnsAt n j + n + n + x) k (e .bound) (pos 0) bound
       ∙ getD-set-other (set work (columnsAt n j + x) (e .low)) (columnsAt n j + n + x) k (e .high) (pos 0) high
       ∙ getD-set-other work (columnsAt n j + x) k (e .low) (pos 0) low
 

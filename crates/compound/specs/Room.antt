@@ -63,6 +63,11 @@ stored places lent (suc j) z = record {
   bound = getD (lent .work) (columnsAt places j + places + places + z) (pos 0);
 }
 
+-- an entry put at total x of the three columns that begin at a place
+abbrev pub putColumns : List ℤ → ℕ → ℕ → ℕ → Entry → List ℤ
+putColumns work at places x e =
+    set (set (set work (at + x) (e .low)) (at + places + x) (e .high)) (at + places + places + x) (e .bound)
+
 -- an entry put at total x of row j
 abbrev pub placed : ℕ → Lent → ℕ → ℕ → Entry → Lent
 placed places lent zero x e = record {
@@ -75,8 +80,7 @@ placed places lent (suc j) x e = record {
   low = lent .low;
   high = lent .high;
   bound = lent .bound;
-  work = set (set (set (lent .work) (columnsAt places j + x) (e .low)) (columnsAt places j + places + x) (e .high))
-      (columnsAt places j + places + places + x) (e .bound);
+  work = putColumns (lent .work) (columnsAt places j) places x e;
 }
 
 -- a row of the lent rows that a function may read or write at total x

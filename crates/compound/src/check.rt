@@ -108,7 +108,8 @@ pub fn check(
     bound: &[i64],
     work: &[i64],
 ) -> CurveAnswer
-    ensures { λ r. ⌜ paper r ≡ firstOf (checks job (now (weights .entry)) (lentRows (now (low .entry)) (now (high .entry)) (now (bound .entry)) (now (work .entry)))) ⌝ }
+    ensures { λ r. ⌜ paper r ≡ firstOf (checks job (now (weights .entry))
+        (lentRows (now (low .entry)) (now (high .entry)) (now (bound .entry)) (now (work .entry)))) ⌝ }
 {
     if is_outside(1, 4, job.law.order) {
         return CurveAnswer::Refused(Reason::Order, 0);

@@ -56,8 +56,11 @@ fn fill_total(
 ) -> Faults
     requires { ⌜ (total ≡ totalWeight (now weights)) × Limits job (now weights) ⌝ }
     requires { ⌜ Ready (job .law) (now weights) places x (lentRows (now low) (now high) (now bound) (now work)) ⌝ }
-    ensures faults { λ r. ⌜ r ≡ faultsBelow (job .law .order) (entryAt job (now (weights .entry)) (stored places (lentRows (now (low .entry)) (now (high .entry)) (now (bound .entry)) (now (work .entry))))) x ⌝ }
-    ensures rows { λ r. ⌜ Advanced job (now (weights .entry)) places x (job .law .order) (lentRows (now (low .entry)) (now (high .entry)) (now (bound .entry)) (now (work .entry))) (lentRows (now (low .exit)) (now (high .exit)) (now (bound .exit)) (now (work .exit))) ⌝ }
+    ensures faults { λ r. ⌜ r ≡ faultsBelow (job .law .order) (entryAt job (now (weights .entry)) (stored places
+        (lentRows (now (low .entry)) (now (high .entry)) (now (bound .entry)) (now (work .entry))))) x ⌝ }
+    ensures rows { λ r. ⌜ Advanced job (now (weights .entry)) places x (job .law .order)
+        (lentRows (now (low .entry)) (now (high .entry)) (now (bound .entry)) (now (work .entry)))
+        (lentRows (now (low .exit)) (now (high .exit)) (now (bound .exit)) (now (work .exit))) ⌝ }
 {
     let order = job.law.order as usize;
     let mut faults = Faults {
@@ -83,7 +86,9 @@ pub fn fill(
 ) -> CurveAnswer
     requires { ⌜ Limits job (now weights) × LongEnough (job .last + 1) (lentRows (now low) (now high) (now bound) (now work)) ⌝ }
     ensures answer { λ r. ⌜ paper r ≡ firstOf (faults job (now (weights .entry))) ⌝ }
-    ensures rows { λ r. ⌜ Filled job (now (weights .entry)) (lentRows (now (low .entry)) (now (high .entry)) (now (bound .entry)) (now (work .entry))) (lentRows (now (low .exit)) (now (high .exit)) (now (bound .exit)) (now (work .exit))) ⌝ }
+    ensures rows { λ r. ⌜ Filled job (now (weights .entry))
+        (lentRows (now (low .entry)) (now (high .entry)) (now (bound .entry)) (now (work .entry)))
+        (lentRows (now (low .exit)) (now (high .exit)) (now (bound .exit)) (now (work .exit))) ⌝ }
 {
     let total = total_weight(weights);
     let places = job.last as usize + 1;

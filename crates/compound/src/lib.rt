@@ -49,8 +49,11 @@ pub fn curve(
     bound: &mut [i64],
     work: &mut [i64],
 ) -> CurveAnswer
-    ensures answer { λ r. ⌜ paper r ≡ curveAnswer job (now (weights .entry)) (lentRows (now (low .entry)) (now (high .entry)) (now (bound .entry)) (now (work .entry))) ⌝ }
-    ensures rows { λ r. ⌜ lentRows (now (low .exit)) (now (high .exit)) (now (bound .exit)) (now (work .exit)) ≡ curveLent job (now (weights .entry)) (lentRows (now (low .entry)) (now (high .entry)) (now (bound .entry)) (now (work .entry))) ⌝ }
+    ensures answer { λ r. ⌜ paper r ≡ curveAnswer job (now (weights .entry))
+        (lentRows (now (low .entry)) (now (high .entry)) (now (bound .entry)) (now (work .entry))) ⌝ }
+    ensures rows { λ r. ⌜ lentRows (now (low .exit)) (now (high .exit)) (now (bound .exit)) (now (work .exit))
+        ≡ curveLent job (now (weights .entry))
+        (lentRows (now (low .entry)) (now (high .entry)) (now (bound .entry)) (now (work .entry))) ⌝ }
 {
     let checked = check::check(job, weights, low, high, bound, work);
     if is_refused(checked) {

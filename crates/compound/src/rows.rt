@@ -8,7 +8,7 @@ ghost use Prim.Native.Nat.{_+_, _-_, _≤_, _<_};
 ghost use lib.ListN.{length, set};
 ghost use Rattle.compound.specs.Call.{lentRows};
 ghost use Rattle.enclosure.specs.Term.{TermRoom, lineFactor, termSums};
-ghost use Rattle.compound.specs.Room.{Reachable, columnsAt, stored, placed};
+ghost use Rattle.compound.specs.Room.{Reachable, columnsAt, stored, putColumns, placed};
 
 // Low, high and bound.
 const COLUMNS: usize = 3;
@@ -78,7 +78,7 @@ fn put_first(low: &mut [i64], high: &mut [i64], bound: &mut [i64], x: usize, ent
 // An entry put at total `x` of the columns that begin at `at`.
 fn put_further(work: &mut [i64], at: usize, places: usize, x: usize, entry: Entry)
     requires { ⌜ (x < places) × (at + places + places + places ≤ length (now work)) ⌝ }
-    ensures { λ r. ⌜ now (work .exit) ≡ set (set (set (now (work .entry)) (at + x) (entry .low)) (at + places + x) (entry .high)) (at + places + places + x) (entry .bound) ⌝ }
+    ensures { λ r. ⌜ now (work .exit) ≡ putColumns (now (work .entry)) at places x entry ⌝ }
 {
     let low_at = at + x;
     let high_at = at + places + x;
@@ -103,7 +103,8 @@ pub fn put(
     entry: Entry,
 )
     requires { ⌜ Reachable places x (lentRows (now low) (now high) (now bound) (now work)) row ⌝ }
-    ensures { λ r. ⌜ lentRows (now (low .exit)) (now (high .exit)) (now (bound .exit)) (now (work .exit)) ≡ placed places (lentRows (now (low .entry)) (now (high .entry)) (now (bound .entry)) (now (work .entry))) row x entry ⌝ }
+    ensures { λ r. ⌜ lentRows (now (low .exit)) (now (high .exit)) (now (bound .exit)) (now (work .exit))
+        ≡ placed places (lentRows (now (low .entry)) (now (high .entry)) (now (bound .entry)) (now (work .entry))) row x entry ⌝ }
 {
     if row == 0 {
         put_first(low, high, bound, x, entry);

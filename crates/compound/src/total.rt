@@ -43,7 +43,8 @@ fn sums_zero(
     places: usize,
 ) -> Entry
     requires { ⌜ Ready law (now weights) places x (lentRows (now low) (now high) (now bound) (now work)) ⌝ }
-    ensures { λ r. ⌜ r ≡ sumsZero law (now (weights .entry)) (stored places (lentRows (now (low .entry)) (now (high .entry)) (now (bound .entry)) (now (work .entry)))) x ⌝ }
+    ensures { λ r. ⌜ r ≡ sumsZero law (now (weights .entry)) (stored places
+        (lentRows (now (low .entry)) (now (high .entry)) (now (bound .entry)) (now (work .entry)))) x ⌝ }
 {
     let order = law.order as usize;
     let mut sums = Entry {
@@ -72,7 +73,8 @@ fn entry_zero(
 ) -> Entry
     requires { ⌜ (1 ≤ x) × (total ≡ totalWeight (now weights)) ⌝ }
     requires { ⌜ Ready law (now weights) places x (lentRows (now low) (now high) (now bound) (now work)) ⌝ }
-    ensures { λ r. ⌜ r ≡ rounded (divisorZero law (now (weights .entry)) x) (sumsZero law (now (weights .entry)) (stored places (lentRows (now (low .entry)) (now (high .entry)) (now (bound .entry)) (now (work .entry)))) x) ⌝ }
+    ensures { λ r. ⌜ r ≡ rounded (divisorZero law (now (weights .entry)) x) (sumsZero law (now (weights .entry)) (stored places
+        (lentRows (now (low .entry)) (now (high .entry)) (now (bound .entry)) (now (work .entry)))) x) ⌝ }
 {
     let divisor = law.divisor * x as u64 * total;
     let sums = sums_zero(law, x, weights, low, high, bound, work, places);
@@ -94,7 +96,8 @@ fn entry_next(
     requires { ⌜ (1 ≤ total) × (total < 2 ^ 63) ⌝ }
     requires { ⌜ Reachable places x (lentRows (now low) (now high) (now bound) (now work)) before ⌝ }
     requires { ⌜ TermRoom none weightAlone x (now weights) (stored places (lentRows (now low) (now high) (now bound) (now work)) before) ⌝ }
-    ensures { λ r. ⌜ r ≡ rounded total (sumsNext (now (weights .entry)) (stored places (lentRows (now (low .entry)) (now (high .entry)) (now (bound .entry)) (now (work .entry)))) before x) ⌝ }
+    ensures { λ r. ⌜ r ≡ rounded total (sumsNext (now (weights .entry)) (stored places
+        (lentRows (now (low .entry)) (now (high .entry)) (now (bound .entry)) (now (work .entry)))) before x) ⌝ }
 {
     let none = Entry {
         low: 0,
@@ -156,7 +159,8 @@ pub fn entry_at(
 ) -> Entry
     requires { ⌜ (row < job .law .order) × (total ≡ totalWeight (now weights)) × Limits job (now weights) ⌝ }
     requires { ⌜ Ready (job .law) (now weights) places x (lentRows (now low) (now high) (now bound) (now work)) ⌝ }
-    ensures { λ r. ⌜ r ≡ entryAt job (now (weights .entry)) (stored places (lentRows (now (low .entry)) (now (high .entry)) (now (bound .entry)) (now (work .entry)))) row x ⌝ }
+    ensures { λ r. ⌜ r ≡ entryAt job (now (weights .entry)) (stored places
+        (lentRows (now (low .entry)) (now (high .entry)) (now (bound .entry)) (now (work .entry)))) row x ⌝ }
 {
     if x == 0 {
         return first_entry(job.start, row);

@@ -2,7 +2,7 @@
 -- an entry, so each sum grows by at most 10^6 times W times the largest entry.
 use mathlib.Core.Path.{_≡_, refl}
 use mathlib.Core.List.{List, [], _∷_}
-use Prim.Native.Nat.{ℕ, zero, suc, _+_, _-_, _*_, _≤_, _<_, min, zero-le}
+use Prim.Native.Nat.{ℕ, zero, suc, _+_, _-_, _*_, _≤_, _<_, _^_, min, zero-le}
 use native.Mathlib.Nat as NL
 use native.Mathlib.Omega.{arith}
 use lib.IntN.{ℤ, pos, negsuc, natAbs, _+ℤ_, _-ℤ_, _*ℤ_}
@@ -62,6 +62,13 @@ module _ (column : Entry → ℤ) (adds : (d e : Entry) → column (plus d e) �
 pub quotient-fits : (z : ℤ) (d : ℕ) → natAbs z ≤ 4000000000000000000 → SFits w64 (ceilDiv z d +ℤ pos 1)
 quotient-fits z d h = size-fits w64 (ceilDiv z d +ℤ pos 1) (omega (arith, size-add (ceilDiv z d) (pos 1), ceil-size z d))
 
+-- ---- sums and differences that are small enough
+sum-fits : (a b : ℤ) → natAbs a + natAbs b < 2 ^ 63 → SFits w64 (a +ℤ b)
+sum-fits a b h = size-fits w64 (a +ℤ b) (omega (arith, size-add a b))
+
+difference-fits : (a b : ℤ) → natAbs a + natAbs b < 2 ^ 63 → SFits w64 (a -ℤ b)
+difference-fits a b h = size-fits w64 (a -ℤ b) (omega (arith, size-sub a b))
+
 -- ---- a term
 module _ (sums : Entry) (f : Factor) (x : ℕ) (weights : List ℕ) (row : ℕ → Entry) (h : TermRoom sums f x weights row) where
   -- the sums after n severities
@@ -108,7 +115,8 @@ module _ (sums : Entry) (f : Factor) (x : ℕ) (weights : List ℕ) (row : ℕ �
       × (natAbs (scaled (lineFactor f weights y) (entry y) .high) ≤ getD weights y 0 * 2000000000000000)
       × (natAbs (scaled (lineFactor f weights y) (entry y) .bound) ≤ getD weights y 0 * 1000000000000000)
   weighted-size y l =
-      let s = scaled-size (entry y) (h .row-small (x - (y + 1)) (omega arith)) (lineFactor f weights y) (getD weights y 0 * 1000000) (factor-size y l) in
+      let small = h .row-small (x - (y + 1)) (omega arith) in
+      let s = scaled-size (entry y) small (lineFactor f weights y) (getD weights y 0 * 1000000) (factor-size y l) in
       (omega (arith, s .0), omega (arith, s .1), omega (arith, s .2))
 
   pub record Running (n : ℕ) : Type 0 where
@@ -118,9 +126,9 @@ module _ (sums : Entry) (f : Factor) (x : ℕ) (weights : List ℕ) (row : ℕ �
 
   running : (n : ℕ) → n ≤ x → Running n
   running n k = record {
-    low = running-size (λ e. e .low) (λ d e. refl) sums _ (λ y. getD weights y 0) 2000000000000000 n (λ y l. weighted-size y (omega arith) .0);
-    high = running-size (λ e. e .high) (λ d e. refl) sums _ (λ y. getD weights y 0) 2000000000000000 n (λ y l. weighted-size y (omega arith) .1);
-    bound = running-size (λ e. e .bound) (λ d e. refl) sums _ (λ y. getD weights y 0) 1000000000000000 n (λ y l. weighted-size y (omega arith) .2);
+    low = running-size (λ e. e .low) (λ d e. refl) sums _ _ 2000000000000000 n (λ y l. weighted-size y (omega arith) .0);
+    high = running-size (λ e. e .high) (λ d e. refl) sums _ _ 2000000000000000 n (λ y l. weighted-size y (omega arith) .1);
+    bound = running-size (λ e. e .bound) (λ d e. refl) sums _ _ 1000000000000000 n (λ y l. weighted-size y (omega arith) .2);
   }
 
   pub add-room : (y : ℕ) → y < x → AddRoom (at y) (lineFactor f weights y) (entry y .low) (entry y .high) (entry y .bound)
@@ -137,12 +145,12 @@ module _ (sums : Entry) (f : Factor) (x : ℕ) (weights : List ℕ) (row : ℕ �
         times-low = size-fits w64 (z *ℤ e .low) (omega arith);
         times-high = size-fits w64 (z *ℤ e .high) (omega arith);
         times-bound = size-fits w64 (z *ℤ e .bound) (omega arith);
-        low-low = size-fits w64 (at y .low +ℤ z *ℤ e .low) (omega (arith, size-add (at y .low) (z *ℤ e .low), r .low, h .low-sum));
-        low-high = size-fits w64 (at y .low +ℤ z *ℤ e .high) (omega (arith, size-add (at y .low) (z *ℤ e .high), r .low, h .low-sum));
-        high-low = size-fits w64 (at y .high +ℤ z *ℤ e .low) (omega (arith, size-add (at y .high) (z *ℤ e .low), r .high, h .high-sum));
-        high-high = size-fits w64 (at y .high +ℤ z *ℤ e .high) (omega (arith, size-add (at y .high) (z *ℤ e .high), r .high, h .high-sum));
-        bound-up = size-fits w64 (at y .bound +ℤ z *ℤ e .bound) (omega (arith, size-add (at y .bound) (z *ℤ e .bound), r .bound, h .bound-sum));
-        bound-down = size-fits w64 (at y .bound -ℤ z *ℤ e .bound) (omega (arith, size-sub (at y .bound) (z *ℤ e .bound), r .bound, h .bound-sum));
+        low-low = sum-fits (at y .low) (z *ℤ e .low) (omega (arith, r .low, h .low-sum));
+        low-high = sum-fits (at y .low) (z *ℤ e .high) (omega (arith, r .low, h .low-sum));
+        high-low = sum-fits (at y .high) (z *ℤ e .low) (omega (arith, r .high, h .high-sum));
+        high-high = sum-fits (at y .high) (z *ℤ e .high) (omega (arith, r .high, h .high-sum));
+        bound-up = sum-fits (at y .bound) (z *ℤ e .bound) (omega (arith, r .bound, h .bound-sum));
+        bound-down = difference-fits (at y .bound) (z *ℤ e .bound) (omega (arith, r .bound, h .bound-sum));
       }
 
   -- the whole term

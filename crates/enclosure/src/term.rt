@@ -38,7 +38,8 @@ pub fn add_term(
 ) -> Entry
     requires { ⌜ TermRoom sums factor x (now weights) (entryOf (now low) (now high) (now bound)) ⌝ }
     requires { ⌜ (x ≤ length (now low)) × (x ≤ length (now high)) × (x ≤ length (now bound)) ⌝ }
-    ensures { λ r. ⌜ r ≡ termSums sums (lineFactor factor (now (weights .entry))) x (now (weights .entry)) (entryOf (now (low .entry)) (now (high .entry)) (now (bound .entry))) ⌝ }
+    ensures { λ r. ⌜ r ≡ termSums sums (lineFactor factor (now (weights .entry))) x (now (weights .entry))
+        (entryOf (now (low .entry)) (now (high .entry)) (now (bound .entry))) ⌝ }
 {
     let mut sums = sums;
     let last = smaller(x, weights.len());

@@ -35,7 +35,8 @@ abbrev pub numbered : List Condition → Bool
 numbered = every (λ c. ltb 0 (c .number))
 
 -- two lists, one after the other: the second counts where the first refuses nothing
-pub first-append : (cs ds : List Condition) → T (numbered cs) → firstOf (cs ++ ds) ≡ cond (isAccepted (firstOf cs)) (firstOf ds) (firstOf cs)
+pub first-append : (cs ds : List Condition) → T (numbered cs)
+    → firstOf (cs ++ ds) ≡ cond (isAccepted (firstOf cs)) (firstOf ds) (firstOf cs)
 unfolding firstOf
 first-append [] ds t = refl
 first-append (c ∷ cs) ds t = by (c .holds) (first-append cs ds (and-right (ltb 0 (c .number)) (numbered cs) t))
@@ -43,8 +44,10 @@ first-append (c ∷ cs) ds t = by (c .holds) (first-append cs ds (and-right (ltb
     refuses : eqb (c .number) 0 ≡ false
     refuses = ne-eqb (c .number) 0 (λ e. NL.not-suc-le-zero (rw e at (ltb→lt 0 (c .number) (and-left (ltb 0 (c .number)) (numbered cs) t))))
 
+    refusal : Answer
+    refusal = refused (c .number) (c .place)
+
     by : (b : Bool) → firstOf (cs ++ ds) ≡ cond (isAccepted (firstOf cs)) (firstOf ds) (firstOf cs)
-        → cond b (refused (c .number) (c .place)) (firstOf (cs ++ ds))
-        ≡ cond (isAccepted (cond b (refused (c .number) (c .place)) (firstOf cs))) (firstOf ds) (cond b (refused (c .number) (c .place)) (firstOf cs))
+        → cond b refusal (firstOf (cs ++ ds)) ≡ cond (isAccepted (cond b refusal (firstOf cs))) (firstOf ds) (cond b refusal (firstOf cs))
     by true e = rw refuses
     by false e = e

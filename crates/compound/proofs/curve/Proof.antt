@@ -110,7 +110,8 @@ returns-2 c =
     let answer = call .fill .ensures .0 in
     let refuses = ap isAccepted (sym answer) ∙ not-true _ (sym (then .before .is-refused2 .ensures) ∙ then .if2 .taken) in (
       answer ∙ late-answer (job s) (weights s) (lent₀ s) (passed (else call)),
-      fault-rows (job s) (weights s) (lent₀ s) (passed (else call)) (lent call) (filled call) _ (then .before .before .before .clear .ensures) refuses _ _ _
+      fault-rows (job s) (weights s) (lent₀ s) (passed (else call)) (lent call) (filled call) _
+          (then .before .before .before .clear .ensures) refuses _ _ _
           (low .clear2 .ensures) (high .clear3 .ensures) (bound .clear4 .ensures),
     )
 
@@ -122,7 +123,8 @@ returns-3 c =
     let answer = call .fill .ensures .0 in
     let accepts = ap isAccepted (sym answer) ∙ not-false _ (sym (c .before .is-refused2 .ensures) ∙ c .if2 .left) in (
       answer ∙ late-answer (job s) (weights s) (lent₀ s) (passed (else call)),
-      end-rows (job s) (weights s) (lent₀ s) (passed (else call)) (lent call) (filled call) _ (c .before .before .before .clear .ensures) (long (else call)) accepts,
+      end-rows (job s) (weights s) (lent₀ s) (passed (else call)) (lent call) (filled call) _
+          (c .before .before .before .clear .ensures) (long (else call)) accepts,
     )
 
 pub curve-spec : {M : Type 1} → statement M

@@ -20,7 +20,8 @@ abbrev μ-loop : tie.MeasureT-loop
 zeros-length : (i : ℕ) (row : List ℤ) → i ≤ length row → length (written (replicate i (pos 0)) row) ≡ length row
 zeros-length i row h = written-length (replicate i (pos 0)) row (rw (length-replicate i (pos 0)) h)
 
-zeros-next : (i : ℕ) (row : List ℤ) → i < length row → set (written (replicate i (pos 0)) row) i (pos 0) ≡ written (replicate (i + 1) (pos 0)) row
+zeros-next : (i : ℕ) (row : List ℤ) → i < length row
+    → set (written (replicate i (pos 0)) row) i (pos 0) ≡ written (replicate (i + 1) (pos 0)) row
 zeros-next i row h =
     ap (λ (k : ℕ). set (written (replicate i (pos 0)) row) k (pos 0)) (sym (length-replicate i (pos 0)))
     ∙ written-next (replicate i (pos 0)) row (pos 0) (rw (length-replicate i (pos 0)) h)

@@ -122,7 +122,8 @@ returns-2 c =
     (sym (ap (λ (f : Faults). f .range) (found w)) ∙ c .before .if1 .left) (sym (ap (λ (f : Faults). f .bound) (found w)) ∙ c .if2 .taken))
 
 -- no fault, and the next total
-sound : (c : tie.Else2 Inv-loop μ-loop) → let w = c .before .before in faultAt (job w .law .order) (curveRows (job w) (weights w)) (x w) ≡ false
+sound : (c : tie.Else2 Inv-loop μ-loop) → let w = c .before .before in
+    faultAt (job w .law .order) (curveRows (job w) (weights w)) (x w) ≡ false
 sound c =
     let w = c .before .before in
     rw (sym (ap (λ (f : Faults). f .range) (found w)) ∙ c .before .if1 .left) (sym (ap (λ (f : Faults). f .bound) (found w)) ∙ c .if2 .left)
@@ -139,8 +140,8 @@ loop-again : tie.Need-loop-again Inv-loop μ-loop
 loop-again c =
     let w = c .before .before in (
       omega (arith, turn w .loop-test .taken),
-      reached-next (job w) (weights w) (start (loop w) .pre .0) (lent₀ (loop w)) (start (loop w) .pre .1) (x w) (lent (loop w)) (here w) (filled w)
-          (step w) (sound c),
+      reached-next (job w) (weights w) (start (loop w) .pre .0) (lent₀ (loop w)) (start (loop w) .pre .1) (x w) (lent (loop w)) (here w)
+          (filled w) (step w) (sound c),
     )
 
 returns-3 : tie.Need-returns-3 Inv-loop μ-loop
@@ -149,7 +150,8 @@ returns-3 c =
     let s = start loop in
     let all : loop .loop .x ≡ s .args .job .last + 1 = omega (arith, loop .loop .inv .0, c .loop-test .left) in (
       sym (found-none (s .args .job) (s .args .weights .now) (s .pre .0) (rw all at (loop .loop .inv .1 .sound))),
-      filled-end (s .args .job) (s .args .weights .now) (s .pre .0) (lent₀ loop) (s .pre .1) (loop .loop .x) (lent loop) (loop .loop .inv .1) all,
+      filled-end (s .args .job) (s .args .weights .now) (s .pre .0) (lent₀ loop) (s .pre .1) (loop .loop .x) (lent loop)
+          (loop .loop .inv .1) all,
     )
 
 pub fill-spec : {M : Type 1} → statement M

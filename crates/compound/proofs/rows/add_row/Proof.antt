@@ -12,9 +12,14 @@ use Rattle.compound.proofs.rows.add_row.Tie as tie
 
 add-term-requires : tie.Need-add-term-requires
 add-term-requires c κs =
-    let reach = c .before .before .pre .0 in (
+    let reach = c .before .before .pre .0 in
+    let below = reach .total-below in (
       rw (c .if1 .taken) at (c .before .before .pre .1),
-      (omega (arith, reach .total-below, reach .long .low-long), omega (arith, reach .total-below, reach .long .high-long), omega (arith, reach .total-below, reach .long .bound-long)),
+      (
+        omega (arith, below, reach .long .low-long),
+        omega (arith, below, reach .long .high-long),
+        omega (arith, below, reach .long .bound-long),
+      ),
     )
 
 returns : tie.Need-returns

@@ -12,16 +12,17 @@ use Rattle.compound.proofs.total.entry_next.Tie as tie
 
 divide-sums-requires : tie.Need-divide-sums-requires
 divide-sums-requires c κs =
-    let s = c .before .before in
-    (search needs, search needs, rw (c .add-row .ensures) (quotient-fits _ _ (omega (arith, term-size _ weightAlone _ _ _ (s .pre .1 .1) .2))))
+    let size = term-size _ weightAlone _ _ _ (c .before .before .pre .1 .1) .2 in
+    (search needs, search needs, rw (c .add-row .ensures) (quotient-fits _ _ (omega (arith, size))))
 
 returns : tie.Need-returns
 returns c =
     let d = c .before in
     let a = d .before .before .args in
+    let lent = lentRows (a .low .now) (a .high .now) (a .bound .now) (a .work .now) in
     c .divide-sums .ensures
     ∙ ap (rounded (a .total)) (d .add-row .ensures
-    ∙ next-is (a .weights .now) (a .x) (stored (a .places) (lentRows (a .low .now) (a .high .now) (a .bound .now) (a .work .now))) (a .before))
+    ∙ next-is (a .weights .now) (a .x) (stored (a .places) lent) (a .before))
 
 pub entry-next-spec : {M : Type 1} → statement M
 entry-next-spec = tie.close (tie.spec (λ c κs. search needs) divide-sums-requires returns)

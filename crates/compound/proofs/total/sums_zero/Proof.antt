@@ -37,19 +37,20 @@ add-row-requires c κs =
 loop-again : tie.Need-loop-again Inv-loop μ-loop
 loop-again c =
     let d = c .before in
-    let a = d .before .before .before .before .args in (
+    let a = d .before .before .before .before .args in
+    let lent = lentRows (a .low .now) (a .high .now) (a .bound .now) (a .work .now) in (
       search needs,
       (rw (d .before .before .loop .inv .1, d .term-factor .ensures) at (c .add-row .ensures))
-          ∙ terms-more (a .law) (a .weights .now) (a .x) (stored (a .places) (lentRows (a .low .now) (a .high .now) (a .bound .now) (a .work .now)))
-          (d .before .before .loop .i),
+          ∙ terms-more (a .law) (a .weights .now) (a .x) (stored (a .places) lent) (d .before .before .loop .i),
     )
 
 returns : tie.Need-returns Inv-loop μ-loop
 returns c =
     let a = c .before .before .before .args in
+    let lent = lentRows (a .low .now) (a .high .now) (a .bound .now) (a .work .now) in
     let all : c .before .loop .i ≡ a .law .order = search needs in
     (rw all at (c .before .loop .inv .1))
-    ∙ terms-all (a .law) (a .weights .now) (a .x) (stored (a .places) (lentRows (a .low .now) (a .high .now) (a .bound .now) (a .work .now)))
+    ∙ terms-all (a .law) (a .weights .now) (a .x) (stored (a .places) lent)
 
 pub sums-zero-spec : {M : Type 1} → statement M
 sums-zero-spec =

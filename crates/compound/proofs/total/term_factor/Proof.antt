@@ -31,10 +31,12 @@ mul-t11 : tie.Need-mul-t11
 mul-t11 c = rw (a-is c, x-is c) (product-fits (start c))
 
 returns : tie.Need-returns
-returns c = same-factor (ap (λ (z : ℤ). toZ w64 (ofZ w64 z)) (λ i. a-is (c .before) i *ℤ x-is (c .before) i) ∙ toZ-ofZ (product-fits (start (c .before))))
+returns c = same-factor
+    (ap (λ (z : ℤ). toZ w64 (ofZ w64 z)) (λ i. a-is (c .before) i *ℤ x-is (c .before) i) ∙ toZ-ofZ (product-fits (start (c .before))))
     (toZ-ofZ (record { sfits = c .t15 .given }))
   where
-    same-factor : {k k′ s s′ : ℤ} → k ≡ k′ → s ≡ s′ → _≡_ {A = Factor} (record { constant = k; slope = s }) (record { constant = k′; slope = s′ })
+    same-factor : {k k′ s s′ : ℤ} → k ≡ k′ → s ≡ s′
+        → _≡_ {A = Factor} (record { constant = k; slope = s }) (record { constant = k′; slope = s′ })
     same-factor p q = λ i. record { constant = p i; slope = q i }
 
 pub term-factor-spec : {M : Type 1} → statement M

@@ -30,7 +30,8 @@ returns c =
     let low : SFits w64 (s .args .sums .low) = record { sfits = d .before .before .before .before .struct-told .given .0 .1 } in
     let high : SFits w64 (s .args .sums .high) = record { sfits = d .before .before .before .struct-told2 .given .1 .0 .1 } in
     let ends = simp toZ-ofZ at (d .before .before .divide .ensures) in
-    same-entry (held w64 (c .struct-told4 .given .0 .1) (ends .0)) (held w64 (c .struct-told4 .given .1 .0 .1) (ends .1)) (rw (bound-is d) (toZ-ofZ (s .pre .2)))
+    same-entry (held w64 (c .struct-told4 .given .0 .1) (ends .0)) (held w64 (c .struct-told4 .given .1 .0 .1) (ends .1))
+    (rw (bound-is d) (toZ-ofZ (s .pre .2)))
 
 pub divide-sums-spec : {M : Type 1} → statement M
 divide-sums-spec = tie.close (tie.spec (λ c κs. search needs) (λ c κs. search needs) add-t5 returns)

@@ -47,7 +47,8 @@ module _ (c : tie.After-add-scaled-arg3 Inv-loop μ-loop) where
   below : i < start .args .x
   below = search needs
 
-  factor-is : toZ w64 (ofZ w64 (c .before .before .before .factor-at .result)) ≡ lineFactor (start .args .factor) (start .args .weights .now) i
+  factor-is : toZ w64 (ofZ w64 (c .before .before .before .factor-at .result))
+      ≡ lineFactor (start .args .factor) (start .args .weights .now) i
   factor-is = held w64 (c .before .before .before .factor-at .ok) (c .before .before .before .factor-at .ensures)
 
   low-is : toZ w64 (ofZ w64 (getD (start .args .low .now) at (pos 0))) ≡ getD (start .args .low .now) at (pos 0)
@@ -71,10 +72,10 @@ add-scaled-requires c κs =
 
 loop-again : tie.Need-loop-again Inv-loop μ-loop
 loop-again c =
-    let d = c .before in (
+    let d = c .before in
+    let so-far = d .before .before .before .before .before .before .loop .inv .1 in (
       search needs,
-      (rw (d .before .before .before .before .before .before .loop .inv .1, factor-is d, low-is d, high-is d, bound-is d) at (c .add-scaled .ensures))
-          ∙ accumulate-next _ _ (i d) _,
+      (rw (so-far, factor-is d, low-is d, high-is d, bound-is d) at (c .add-scaled .ensures)) ∙ accumulate-next _ _ (i d) _,
     )
 
 returns : tie.Need-returns Inv-loop μ-loop
