@@ -49,10 +49,9 @@ module _ (job : Job) (weights : List ℕ) where
   unfolding entryAt sumsZero sumsNext
   entry-local rows rows′ j zero h agree = refl
   entry-local rows rows′ zero (suc x) h agree = ap (rounded _) (accumulate-cong none plus (job .law .order) (λ i l.
-      accumulate-cong none plus (severities weights (suc x)) (λ y m.
-      ap (scaled (factor (job .law) weights (suc x) i y)) (agree i (suc x - suc y) l (omega arith)))))
+      accumulate-cong none plus (severities weights (suc x)) (λ y m. rw (agree i (suc x - suc y) l (omega arith)))))
   entry-local rows rows′ (suc j) (suc x) h agree = ap (rounded _) (accumulate-cong none plus (severities weights (suc x)) (λ y m.
-      ap (scaled _) (agree j (suc x - suc y) (omega arith) (omega arith))))
+      rw (agree j (suc x - suc y) (omega arith) (omega arith))))
 
   history-length : (n : ℕ) → length (history job weights n) ≡ n
   unfolding history withNext

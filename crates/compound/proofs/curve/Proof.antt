@@ -83,7 +83,9 @@ mul-clear : tie.Need-mul-clear
 mul-clear c = let f = c .before .before .before .before .before in record { fits = omega (arith, limits (else f) .last-most) }
 
 clear-requires : tie.Need-clear-requires
-clear-requires c κs = let f = c .before .before .before .before .before in rw (filled f .work-kept .same-length) (long (else f) .work-long)
+clear-requires c κs =
+    let f = c .before .before .before .before .before in
+    omega (arith, filled f .work-kept .same-length, long (else f) .work-long)
 
 -- the work row cleared
 abbrev fill-of : tie.After-is-refused2 → tie.After-fill

@@ -3,7 +3,7 @@ use borrow.Author.Needs.{needs}
 use mathlib.Core.Path.{_≡_, refl, sym, ap, _∙_}
 use mathlib.Core.Bool.{false}
 use mathlib.Core.List.{List}
-use Prim.Native.Nat.{ℕ, _≤_, _-_, _+_}
+use Prim.Native.Nat.{ℕ, _≤_, _<_, _-_, _+_}
 use native.Mathlib.Omega.{arith}
 use Rattle.exact.specs.Severity.{totalWeight}
 use lib.Dec.{eqb}
@@ -46,12 +46,16 @@ module _ (c : tie.At-loop Inv-loop μ-loop) where
   total-is : c .before .total-weight .result ≡ totalWeight (start .args .weights .now)
   total-is = omega (arith, c .before .total-weight .ensures, start .pre .0 .table .weights-most)
 
+-- the total of a turn is one of the job's
+below : (c : tie.In-loop Inv-loop μ-loop) → c .before .loop .x < start (c .before) .args .job .last + 1
+below c = omega (arith, c .loop-test .taken)
+
 fill-total-requires : tie.Need-fill-total-requires Inv-loop μ-loop
 fill-total-requires c κs =
     let turn = c .before .before .before .before in
     let loop = turn .before in
     let s = start loop in
-    ((total-is loop, s .pre .0), reached-ready _ _ (s .pre .0) _ (s .pre .1) _ _ (loop .loop .inv .1) (turn .loop-test .taken))
+    ((total-is loop, s .pre .0), reached-ready _ _ (s .pre .0) _ (s .pre .1) _ _ (loop .loop .inv .1) (below turn))
 
 -- after the entries of a total are put
 module _ (c : tie.After-work Inv-loop μ-loop) where
@@ -106,19 +110,19 @@ module _ (c : tie.After-work Inv-loop μ-loop) where
   fault number refuses e = (
     sym e,
     filled-fault job weights (start loop .pre .0) (lent₀ loop) (start loop .pre .1) x (lent loop) here filled step
-        (turn .loop-test .taken) (ap isAccepted e ∙ refuses),
+        (below turn) (ap isAccepted e ∙ refuses),
   )
 
 returns : tie.Need-returns Inv-loop μ-loop
 returns c =
     let w = c .before in
-    fault w 9 refl (found-range (job w) (weights w) (start (loop w) .pre .0) (x w) (turn w .loop-test .taken) (here w .sound)
+    fault w 9 refl (found-range (job w) (weights w) (start (loop w) .pre .0) (x w) (below (turn w)) (here w .sound)
     (sym (ap (λ (f : Faults). f .range) (found w)) ∙ c .if1 .taken))
 
 returns-2 : tie.Need-returns-2 Inv-loop μ-loop
 returns-2 c =
     let w = c .before .before in
-    fault w 10 refl (found-bound (job w) (weights w) (start (loop w) .pre .0) (x w) (turn w .loop-test .taken) (here w .sound)
+    fault w 10 refl (found-bound (job w) (weights w) (start (loop w) .pre .0) (x w) (below (turn w)) (here w .sound)
     (sym (ap (λ (f : Faults). f .range) (found w)) ∙ c .before .if1 .left) (sym (ap (λ (f : Faults). f .bound) (found w)) ∙ c .if2 .taken))
 
 -- no fault, and the next total
@@ -131,15 +135,15 @@ sound c =
 add-x : tie.Need-add-x Inv-loop μ-loop
 add-x c =
     let w = c .before .before in
-    record { fits = omega (arith, turn w .loop-test .taken, start (loop w) .pre .0 .last-most) }
+    record { fits = omega (arith, below (turn w), start (loop w) .pre .0 .last-most) }
 
 loop-less : tie.Need-loop-less Inv-loop μ-loop
-loop-less c = omega (arith, turn (c .before .before) .loop-test .taken)
+loop-less c = omega (arith, below (turn (c .before .before)))
 
 loop-again : tie.Need-loop-again Inv-loop μ-loop
 loop-again c =
     let w = c .before .before in (
-      omega (arith, turn w .loop-test .taken),
+      omega (arith, below (turn w)),
       reached-next (job w) (weights w) (start (loop w) .pre .0) (lent₀ (loop w)) (start (loop w) .pre .1) (x w) (lent (loop w)) (here w)
           (filled w) (step w) (sound c),
     )
