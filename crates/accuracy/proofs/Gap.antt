@@ -13,7 +13,7 @@ use Rattle.enclosure.specs.declared.Entry.{Entry}
 use Rattle.enclosure.specs.Entry.{plus, scaled, allowance, rounded}
 use Rattle.compound.specs.Curve.{firstEntry, curveRows}
 use Rattle.accuracy.specs.Accuracy.{Divisible}
-use Rattle.compound.proofs.Preserved.{Preserved, all-preserved}
+use Rattle.compound.proofs.Preserved.{PreservedAlone, all-entries}
 
 abbrev pub Narrow : Entry → Type 0
 Narrow e = (e .high -ℤ e .low) ≤ℤ e .bound
@@ -83,18 +83,9 @@ narrow-rounded d e l w = of-parts (rounded d e) (omega (arith, split-add bound (
       split-mul (pos d) bound,
     )
 
--- ---- all entries; nothing stands beside them
-abbrev narrowing : Preserved (Unit {0}) (λ e _. Narrow e)
-narrowing = record {
-  nought = tt;
-  add = λ _ _. tt;
-  times = λ _ _. tt;
-  Divided = λ _ _ _. Unit {0};
-  by-none = omega signed;
-  by-plus = λ e f _ _ p q. narrow-plus e f p q;
-  by-scaled = λ z e _ w. narrow-scaled z e w;
-  by-rounded = λ d e _ _ l w _. narrow-rounded d e l w;
-}
+-- ---- all entries
+abbrev narrowing : PreservedAlone Narrow
+narrowing = record { by-none = omega signed; by-plus = narrow-plus; by-scaled = narrow-scaled; by-rounded = narrow-rounded }
 
 module _ (job : Job) (weights : List ℕ) where
   narrow-first : (j : ℕ) → Narrow (firstEntry (job .start) j)
@@ -102,5 +93,4 @@ module _ (job : Job) (weights : List ℕ) where
   narrow-first (suc j) = ≤ℤ-refl (pos 0)
 
   pub narrow : Divisible job weights → (x j : ℕ) → j < job .law .order → Narrow (curveRows job weights j x)
-  narrow h = all-preserved narrowing job weights (h .divisor-pos) (h .total-pos) (λ _ _. tt)
-      (record { first = λ j _. narrow-first j; row-zero = λ _ _. tt; row-next = λ _ _ _. tt })
+  narrow h = all-entries narrowing job weights (h .divisor-pos) (h .total-pos) narrow-first

@@ -24,7 +24,7 @@ within : (least most n : ℕ) → outside least most n ≡ false → (least ≤ 
 within least most n e = (ltb-false n least (or-left (ltb n least) (ltb most n) e), ltb-false most n (or-right (ltb n least) (ltb most n) e))
 
 -- ---- checks 1 to 8
-pub limit-most : (t : Bool) → cond t 1000 0 ≤ 1000
+limit-most : (t : Bool) → cond t 1000 0 ≤ 1000
 limit-most true = NL.le-refl 1000
 limit-most false = zero-le
 

@@ -32,7 +32,7 @@ use Rattle.compound.specs.Room.{Limits, LongEnough, Ready, stored, fault
 use Rattle.compound.proofs.Advanced.{kept-all, same-faults}
 use Rattle.algebra.proofs.Or.{or-left, or-right}
 use Rattle.compound.proofs.Recursion.{curve-rule, entry-local}
-use Rattle.compound.proofs.Preserved.{Preserved, all-preserved}
+use Rattle.compound.proofs.Preserved.{PreservedAlone, all-entries}
 
 -- ---- bounds are zero or more
 abbrev Nonneg : Entry → Type 0
@@ -49,16 +49,12 @@ nonneg-rounded : (d : ℕ) (e : Entry) → Nonneg e → Nonneg (rounded d e)
 unfolding rounded
 nonneg-rounded d e p = omega (signed, ceil-nonneg (e .bound) d p, split-add (ceilDiv (e .bound) d) (pos 1))
 
-abbrev nonneg : Preserved (Unit {0}) (λ e _. Nonneg e)
+abbrev nonneg : PreservedAlone Nonneg
 nonneg = record {
-  nought = tt;
-  add = λ _ _. tt;
-  times = λ _ _. tt;
-  Divided = λ _ _ _. Unit {0};
   by-none = omega signed;
-  by-plus = λ d e _ _ p q. nonneg-plus d e p q;
-  by-scaled = λ z e _ p. nonneg-scaled z e p;
-  by-rounded = λ d e _ _ _ p _. nonneg-rounded d e p;
+  by-plus = nonneg-plus;
+  by-scaled = nonneg-scaled;
+  by-rounded = λ d e _ p. nonneg-rounded d e p;
 }
 
 -- ---- tests over rows
@@ -125,8 +121,7 @@ module _ (job : Job) (weights : List ℕ) (limits : Limits job weights) where
   first-nonneg (suc j) = omega signed
 
   bound-nonneg : (x j : ℕ) → j < order → Nonneg (curve j x)
-  bound-nonneg = all-preserved nonneg job weights (limits .law .divisor-least) (limits .table .weights-least) (λ _ _. tt)
-      (record { first = λ j _. first-nonneg j; row-zero = λ _ _. tt; row-next = λ _ _ _. tt })
+  bound-nonneg = all-entries nonneg job weights (limits .law .divisor-least) (limits .table .weights-least) first-nonneg
 
   small : (j z : ℕ) → j < order → faultAt order curve z ≡ false → Small (curve j z)
   small j z l e =

@@ -71,3 +71,28 @@ module _ {B : Type 0} {Rel : Entry → B → Type 0} (keeps : Preserved B Rel) w
       pub all-preserved : (x : ℕ) → At x
       all-preserved = strong At (λ x before j h.
           subst (λ e. Rel e (rows j x)) (sym (curve-rule job weights j x h)) (entry-preserved j x h before))
+
+-- ---- a property of entries alone: nothing stands beside them
+pub record PreservedAlone (P : Entry → Type 0) : Type 0 where
+  pub by-none : P none
+  pub by-plus : (d e : Entry) → P d → P e → P (plus d e)
+  pub by-scaled : (z : ℤ) (e : Entry) → P e → P (scaled z e)
+  pub by-rounded : (d : ℕ) (e : Entry) → 1 ≤ d → P e → P (rounded d e)
+
+module _ {P : Entry → Type 0} (keeps : PreservedAlone P) where
+  abbrev beside-nothing : Preserved (Unit {0}) (λ e _. P e)
+  beside-nothing = record {
+    nought = tt;
+    add = λ _ _. tt;
+    times = λ _ _. tt;
+    Divided = λ _ _ _. Unit {0};
+    by-none = keeps .by-none;
+    by-plus = λ d e _ _ p q. keeps .by-plus d e p q;
+    by-scaled = λ z e _ p. keeps .by-scaled z e p;
+    by-rounded = λ d e _ _ l p _. keeps .by-rounded d e l p;
+  }
+
+  pub all-entries : (job : Job) (weights : List ℕ) → 1 ≤ job .law .divisor → 1 ≤ totalWeight weights
+      → ((j : ℕ) → P (firstEntry (job .start) j)) → (x j : ℕ) → j < job .law .order → P (curveRows job weights j x)
+  all-entries job weights divisor-pos total-pos first = all-preserved beside-nothing job weights divisor-pos total-pos (λ _ _. tt)
+      (record { first = λ j _. first j; row-zero = λ _ _. tt; row-next = λ _ _ _. tt })

@@ -17,6 +17,9 @@ ghost use Rattle.model.specs.Answer.{firstOf};
 ghost use Rattle.enclosure.specs.Entry.{beyond};
 ghost use Rattle.compound.specs.Call.{outside, termLimit, wrongTerm, wrongStart, tooShort, paper, checks, lentRows};
 
+// U, which stands for chance 1.
+const UNIT: u64 = 1_000_000_000;
+
 // The largest sum of weights that is told apart: one more than a table may have.
 const WEIGHT_CAP: u64 = 1001;
 
@@ -58,7 +61,7 @@ fn first_wrong_term(law: Law) -> usize
 fn is_wrong_start(start: Start) -> bool
     ensures { λ r. ⌜ r ≡ wrongStart start ⌝ }
 {
-    start.high < start.low || is_outside(1, 1_000_000_000, start.high)
+    start.high < start.low || is_outside(1, UNIT, start.high)
 }
 
 fn capped_sum(total: u64, weight: u64) -> u64

@@ -11,10 +11,7 @@ use enclosure::rule::is_out_of_range;
 use model::Job;
 ghost use mathlib.Core.Path.{_≡_};
 ghost use mathlib.Core.Bool.{_||_};
-ghost use Prim.Native.Nat.{_+_, _≤_};
-ghost use lib.IntN.{pos};
-ghost use lib.ListN.{length, replicate};
-ghost use Rattle.algebra.specs.Slice.{written};
+ghost use Prim.Native.Nat.{_+_};
 ghost use Rattle.exact.specs.Severity.{totalWeight};
 ghost use Rattle.enclosure.specs.Entry.{outOfRange, boundTooLarge};
 ghost use Rattle.compound.specs.Curve.{entryAt};
@@ -102,14 +99,4 @@ pub fn fill(
         }
     }
     CurveAnswer::Accepted
-}
-
-// Zeros in the first `n` places.
-pub fn clear(row: &mut [i64], n: usize)
-    requires { ⌜ n ≤ length (now row) ⌝ }
-    ensures { λ r. ⌜ now (row .exit) ≡ written (replicate n (pos 0)) (now (row .entry)) ⌝ }
-{
-    for i in 0..n {
-        row[i] = 0;
-    }
 }

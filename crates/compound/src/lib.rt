@@ -61,11 +61,11 @@ pub fn curve(
     }
     let places = job.last as usize + 1;
     let answer = fill::fill(job, weights, low, high, bound, work);
-    fill::clear(work, rows::WORK_COLUMNS * places);
+    rows::clear(work, rows::WORK_COLUMNS * places);
     if is_refused(answer) {
-        fill::clear(low, places);
-        fill::clear(high, places);
-        fill::clear(bound, places);
+        rows::clear(low, places);
+        rows::clear(high, places);
+        rows::clear(bound, places);
         return answer;
     }
     answer

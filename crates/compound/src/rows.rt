@@ -5,7 +5,9 @@ use enclosure::term::Factor;
 use enclosure::term::add_term;
 ghost use mathlib.Core.Path.{_≡_};
 ghost use Prim.Native.Nat.{_+_, _-_, _≤_, _<_};
-ghost use lib.ListN.{length, set};
+ghost use lib.IntN.{pos};
+ghost use lib.ListN.{length, set, replicate};
+ghost use Rattle.algebra.specs.Slice.{written};
 ghost use Rattle.compound.specs.Call.{lentRows};
 ghost use Rattle.enclosure.specs.Term.{TermRoom, lineFactor, termSums};
 ghost use Rattle.compound.specs.Room.{Reachable, columnsAt, stored, putColumns, placed};
@@ -112,4 +114,14 @@ pub fn put(
     }
     let at = columns_at(places, row);
     put_further(work, at, places, x, entry);
+}
+
+// Zeros in the first `n` places.
+pub fn clear(row: &mut [i64], n: usize)
+    requires { ⌜ n ≤ length (now row) ⌝ }
+    ensures { λ r. ⌜ now (row .exit) ≡ written (replicate n (pos 0)) (now (row .entry)) ⌝ }
+{
+    for i in 0..n {
+        row[i] = 0;
+    }
 }

@@ -12,6 +12,7 @@ ghost use Rattle.outward.specs.Division.{ceilDiv};
 ghost use Rattle.enclosure.specs.Entry.{plus, scaled, rounded, beyond, outOfRange, boundTooLarge};
 ghost use Rattle.enclosure.specs.Term.{AddRoom};
 
+// U, which stands for chance 1.
 const UNIT: i64 = 1_000_000_000;
 
 // The sums with a factor times an entry added: a factor below 0 takes the entry's other end.
@@ -47,12 +48,13 @@ pub fn divide_sums(sums: Entry, divisor: u64) -> Entry
         bound: bound + 1,
     }
 }
+
 // Whether `z` lies outside -`limit` to `limit`.
 pub fn is_beyond(limit: i64, z: i64) -> bool
-    requires { ⌜ (pos 0 ≤ℤ limit) × (natAbs limit < 2 ^ 63) ⌝ }
+    requires { ⌜ pos 0 ≤ℤ limit ⌝ }
     ensures { λ r. ⌜ r ≡ beyond (natAbs limit) z ⌝ }
 {
-    z < 0 - limit || limit < z
+    z < -limit || limit < z
 }
 
 // Whether an entry's low or high lies outside -2U to 2U.

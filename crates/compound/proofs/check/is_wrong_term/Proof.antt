@@ -1,10 +1,7 @@
 -- By the first call: where it says no, the second call's answer is the answer. Both are asked with the limit of the term.
 use borrow.Author.Needs.{needs}
 use mathlib.Core.Path.{_≡_, sym, _∙_}
-use Prim.Native.Nat.{_<_, _^_}
-use native.Mathlib.Omega.{arith}
-use lib.Dec.{ltb}
-use lib.IntN.{pos, natAbs}
+use lib.IntN.{pos}
 use lib.Signed.{_≤ℤ_}
 use mir.Syntax.{w64}
 use mir.Val.{toZ, ofZ}
@@ -13,7 +10,6 @@ use Rattle.algebra.proofs.Integer.{signed}
 use Rattle.algebra.proofs.Size.{held}
 use Rattle.enclosure.specs.Entry.{beyond}
 use Rattle.compound.specs.Call.{termLimit}
-use Rattle.compound.proofs.Call.{limit-most}
 use Rattle.algebra.proofs.Or.{or-yes, or-no}
 use Rattle.compound.proofs.check.is_wrong_term.Statement.{statement}
 use Rattle.compound.proofs.check.is_wrong_term.Tie as tie
@@ -23,9 +19,8 @@ limit-is : (c : tie.After-term-limit)
     → toZ w64 (ofZ w64 (c .term-limit .result)) ≡ pos (termLimit (c .before .args .order) (c .before .args .i))
 limit-is c = held w64 (c .term-limit .ok) (c .term-limit .ensures)
 
-limit-good : (c : tie.After-term-limit)
-    → let limit = toZ w64 (ofZ w64 (c .term-limit .result)) in (pos 0 ≤ℤ limit) × (natAbs limit < 2 ^ 63)
-limit-good c = rw (limit-is c) (omega signed, omega (arith, limit-most (ltb (c .before .args .i) (c .before .args .order))))
+limit-good : (c : tie.After-term-limit) → pos 0 ≤ℤ toZ w64 (ofZ w64 (c .term-limit .result))
+limit-good c = rw (limit-is c) (omega signed)
 
 -- the answer of the first call
 first-is : (c : tie.After-is-beyond) → let a = c .before .before .args in c .is-beyond .result ≡ beyond (termLimit (a .order) (a .i)) (a .a)

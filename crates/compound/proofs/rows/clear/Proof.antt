@@ -8,8 +8,8 @@ use lib.IntN.{ℤ, pos}
 use lib.ListN.{length, set, replicate, length-replicate, replicate-append-replicate}
 use Rattle.algebra.specs.Slice.{written}
 use Rattle.algebra.proofs.Slice.{written-length, written-next}
-use Rattle.compound.proofs.fill.clear.Statement.{statement}
-use Rattle.compound.proofs.fill.clear.Tie as tie
+use Rattle.compound.proofs.rows.clear.Statement.{statement}
+use Rattle.compound.proofs.rows.clear.Tie as tie
 
 abbrev Inv-loop : tie.InvT-loop
 Inv-loop row₀ n i₀ row i = (i ≤ n) × (row ≡ written (replicate i (pos 0)) row₀)
