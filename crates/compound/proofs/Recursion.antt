@@ -12,8 +12,8 @@ use Rattle.algebra.proofs.Sum.{accumulate-cong}
 use Rattle.exact.specs.Severity.{totalWeight}
 use Rattle.model.specs.declared.Job.{Job}
 use Rattle.enclosure.specs.declared.Entry.{Entry}
-use Rattle.enclosure.specs.Entry.{none, plus, scaled, rounded}
-use Rattle.compound.specs.Curve.{Rows, recorded, severities, factor, divisorZero, sumsZero, sumsNext, firstEntry}
+use Rattle.enclosure.specs.Entry.{none, plus, rounded}
+use Rattle.compound.specs.Curve.{Rows, recorded, severities, divisorZero, sumsZero, sumsNext, firstEntry}
 use Rattle.compound.specs.Curve.{entryAt, withNext, history, curveRows, CurveRule}
 
 -- a number that is not 0

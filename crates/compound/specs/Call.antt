@@ -102,6 +102,7 @@ faultAt order rows x = anyRow outOfRange order rows x || anyRow boundTooLarge or
 unfoldable pub firstFault : Job → List ℕ → ℕ
 firstFault job weights = smallest (faultAt (job .law .order) (curveRows job weights)) (job .last + 1)
 
+-- at that total; where 9 does not hold there, the fault is a bound's
 abbrev pub faults : Job → List ℕ → List Condition
 faults job weights =
     condition (ltb (firstFault job weights) (job .last + 1)

@@ -1,5 +1,5 @@
--- What the crate's own functions ask for and work on: the limits of a job that passed the checks, that every number on the way fits, and
--- the rows as the lent rows hold them.
+-- What the crate's own functions ask for and work on: the limits of a job that passed the checks, the rows as the lent rows hold them, and
+-- how far these are filled.
 use mathlib.Core.Path.{_≡_}
 use mathlib.Core.Bool.{true}
 use mathlib.Core.List.{List}
