@@ -9,53 +9,26 @@ use native.Mathlib.Nat as NL
 use native.Mathlib.Omega.{arith}
 use borrow.Author.Tests.{ltb-false, lt-ltb, le-ltb}
 use lib.Dec.{ltb}
-use lib.IntN.{ℤ, pos, negsuc, natAbs, negℤ}
+use lib.IntN.{ℤ, pos, negsuc, natAbs}
 use lib.Signed.{ltZ, _≤ℤ_}
 use lib.ListN.{drop}
 use lib.Seq.{drop-drop}
 use Rattle.algebra.specs.Smallest.{FailBelow}
 use Rattle.algebra.specs.Sum.{accumulate}
-use Rattle.algebra.proofs.Integer.{signed, split-add, split-neg, *ℤ-nonneg}
 use Rattle.algebra.proofs.Smallest.{smallest-is}
 use Rattle.algebra.proofs.Sum.{accumulate-cong}
-use Rattle.outward.specs.Division.{ceilDiv}
-use Rattle.outward.proofs.Division.{ceil-nonneg}
 use Rattle.model.specs.declared.Job.{Job}
 use Rattle.model.specs.Answer.{accepted, refused, isAccepted, firstOf}
 use Rattle.model.proofs.Answer.{first-none, first-holds, first-fails}
-use Rattle.enclosure.specs.declared.Entry.{Entry}
-use Rattle.enclosure.specs.Entry.{unit, plus, scaled, rounded, outOfRange, boundTooLarge}
-use Rattle.compound.specs.Curve.{Rows, firstEntry, entryAt, curveRows}
+use Rattle.enclosure.specs.Entry.{unit, outOfRange, boundTooLarge}
+use Rattle.compound.specs.Curve.{Rows, entryAt, curveRows}
 use Rattle.compound.specs.Call.{Lent, workPlaces, anyRow, faultAt, firstFault, faults}
 use Rattle.enclosure.specs.Term.{Small}
 use Rattle.compound.specs.Room.{Limits, LongEnough, Ready, stored, faultsBelow, Kept, Advanced, Filled}
 use Rattle.compound.proofs.Advanced.{kept-all, same-faults}
 use Rattle.algebra.proofs.Or.{or-left, or-right}
 use Rattle.compound.proofs.Recursion.{curve-rule, entry-local}
-use Rattle.compound.proofs.Preserved.{PreservedAlone, all-entries}
-
--- ---- bounds are zero or more
-abbrev Nonneg : Entry → Type 0
-Nonneg e = pos 0 ≤ℤ e .bound
-
-nonneg-plus : (d e : Entry) → Nonneg d → Nonneg e → Nonneg (plus d e)
-nonneg-plus d e p q = omega (signed, split-add (d .bound) (e .bound))
-
-nonneg-scaled : (z : ℤ) (e : Entry) → Nonneg e → Nonneg (scaled z e)
-unfolding scaled
-nonneg-scaled z e p = *ℤ-nonneg (pos (natAbs z)) (e .bound) (omega signed) p
-
-nonneg-rounded : (d : ℕ) (e : Entry) → Nonneg e → Nonneg (rounded d e)
-unfolding rounded
-nonneg-rounded d e p = omega (signed, ceil-nonneg (e .bound) d p, split-add (ceilDiv (e .bound) d) (pos 1))
-
-abbrev nonneg : PreservedAlone Nonneg
-nonneg = record {
-  by-none = omega signed;
-  by-plus = nonneg-plus;
-  by-scaled = nonneg-scaled;
-  by-rounded = λ d e _ p. nonneg-rounded d e p;
-}
+use Rattle.compound.proofs.Nonnegative.{bound-nonneg}
 
 -- ---- tests over rows
 any-none : (n : ℕ) (f : ℕ → Bool) → accumulate false _||_ n f ≡ false → (j : ℕ) → j < n → f j ≡ false
@@ -111,18 +84,6 @@ module _ (job : Job) (weights : List ℕ) (limits : Limits job weights) where
   abbrev places : ℕ
   places = job .last + 1
 
-  first-nonneg : (j : ℕ) → Nonneg (firstEntry (job .start) j)
-  first-nonneg zero = omega (
-    signed,
-    limits .start-order,
-    split-add (pos (job .start .high)) (negℤ (pos (job .start .low))),
-    split-neg (pos (job .start .low)),
-  )
-  first-nonneg (suc j) = omega signed
-
-  bound-nonneg : (x j : ℕ) → j < order → Nonneg (curve j x)
-  bound-nonneg = all-entries nonneg job weights (limits .law .divisor-least) (limits .table .weights-least) first-nonneg
-
   small : (j z : ℕ) → j < order → faultAt order curve z ≡ false → Small (curve j z)
   small j z l e =
       let in-range = any-none order (λ j. outOfRange (curve j z)) (or-left (anyRow outOfRange order curve z) _ e) j l in
@@ -130,7 +91,7 @@ module _ (job : Job) (weights : List ℕ) (limits : Limits job weights) where
       record {
         low = ltb-false (2 * unit) (natAbs (curve j z .low)) (or-left _ (ltb (2 * unit) (natAbs (curve j z .high))) in-range);
         high = ltb-false (2 * unit) (natAbs (curve j z .high)) (or-right (ltb (2 * unit) (natAbs (curve j z .low))) _ in-range);
-        bound = size-most (curve j z .bound) unit (bound-nonneg z j l) bounded;
+        bound = size-most (curve j z .bound) unit (bound-nonneg job weights limits z j l) bounded;
       }
 
   -- ---- the answer

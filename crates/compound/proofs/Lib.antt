@@ -1,10 +1,12 @@
--- Proofs that the functions of the crate share.
-pub mod Advanced
+-- Proofs that the functions of the crate share, bottom up: the checks; the rule and what it preserves; the rows where they lie, the sums of
+-- a total, totals one after the other; what the call returns.
+pub mod Tests
 pub mod Call
 pub mod Recursion
-pub mod Filled
 pub mod Preserved
-pub mod Returned
+pub mod Nonnegative
 pub mod Stored
 pub mod Sums
-pub mod Tests
+pub mod Advanced
+pub mod Filled
+pub mod Returned

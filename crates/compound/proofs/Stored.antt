@@ -17,7 +17,7 @@ use Rattle.enclosure.specs.Entry.{plus, scaled}
 use Rattle.compound.specs.Call.{Lent, lentRows, workPlaces}
 use Rattle.compound.proofs.Recursion.{suc-pred}
 use Rattle.enclosure.specs.Term.{Small, TermRoom, termSums, entryOf}
-use Rattle.compound.specs.Room.{Reachable, columnsAt, stored, putColumns, placed}
+use Rattle.compound.specs.Room.{Reachable, columnsAt, columnEntry, stored, putColumns, placed}
 
 -- ---- a term reads its row below x alone
 module _ (x : ℕ) (row row′ : ℕ → Entry) (same : (z : ℕ) → z < x → row z ≡ row′ z) where
@@ -55,14 +55,6 @@ abbrev pub partsAt : List ℤ → ℕ → ℕ → ℕ → Entry
 partsAt work at n = entryOf (take (at + n - at) (drop at work)) (take (at + n + n - (at + n)) (drop (at + n) work))
     (take (at + n + n + n - (at + n + n)) (drop (at + n + n) work))
 
--- the entry at z of the three columns that begin at a place
-abbrev columnEntry : List ℤ → ℕ → ℕ → ℕ → Entry
-columnEntry work n at z = record {
-  low = getD work (at + z) (pos 0);
-  high = getD work (at + n + z) (pos 0);
-  bound = getD work (at + n + n + z) (pos 0);
-}
-
 -- a further row, read from its parts
 pub parts-stored : (places : ℕ) (lent : Lent) (j at z : ℕ) → (j ≡ 0 → ⊥) → at ≡ columnsAt places (j - 1) → z < places
     → stored places lent j z ≡ partsAt (lent .work) at places z
@@ -72,7 +64,7 @@ parts-stored places lent j at z above e h =
       low = part-at (lent .work) at places z h i;
       high = part-at (lent .work) (at + places) places z h i;
       bound = part-at (lent .work) (at + places + places) places z h i;
-    }) ∙ ap (λ (k : ℕ). columnEntry (lent .work) places k z) e)
+    }) ∙ ap (λ (k : ℕ). columnEntry (lent .work) k places z) e)
 
 pub part-length : (work : List ℤ) (at n : ℕ) → at + n ≤ length work → length (take (at + n - at) (drop at work)) ≡ n
 part-length work at n h = length-take-le (at + n - at) (drop at work) (rw (length-drop at work) (omega arith)) ∙ NL.add-sub-cancel-left at n
@@ -130,7 +122,7 @@ module _ (n : ℕ) (work : List ℤ) (j x : ℕ) (e : Entry) (hx : x < n) where
       same d hd q = omega arith
 
   pub columns-kept : (i z : ℕ) → z < n → (i ≡ j → z ≡ x → ⊥)
-      → columnEntry (putColumns work (columnsAt n j) n x e) n (columnsAt n i) z ≡ columnEntry work n (columnsAt n i) z
+      → columnEntry (putColumns work (columnsAt n j) n x e) (columnsAt n i) n z ≡ columnEntry work (columnsAt n i) n z
   columns-kept i z hz apart = λ k. record {
     low = cell-kept i 0 z (lit< tt) hz apart (columnsAt n i + z) (omega arith) k;
     high = cell-kept i 1 z (lit< tt) hz apart (columnsAt n i + n + z) (omega arith) k;
@@ -139,7 +131,7 @@ module _ (n : ℕ) (work : List ℤ) (j x : ℕ) (e : Entry) (hx : x < n) where
 
   -- the cells themselves
   pub columns-put : columnsAt n j + n + n + n ≤ length work
-      → columnEntry (putColumns work (columnsAt n j) n x e) n (columnsAt n j) x ≡ e
+      → columnEntry (putColumns work (columnsAt n j) n x e) (columnsAt n j) n x ≡ e
   columns-put h = λ k. record { low = low k; high = high k; bound = bound k }
     where
       one : List ℤ

@@ -54,16 +54,20 @@ pub record LongEnough (places : ℕ) (lent : Lent) : Type 0 where
 abbrev pub columnsAt : ℕ → ℕ → ℕ
 columnsAt places j = 3 * j * places
 
+-- the entry at total z of the three columns that begin at a place
+abbrev pub columnEntry : List ℤ → ℕ → ℕ → ℕ → Entry
+columnEntry work at places z = record {
+  low = getD work (at + z) (pos 0);
+  high = getD work (at + places + z) (pos 0);
+  bound = getD work (at + places + places + z) (pos 0);
+}
+
 -- row 0 lies in the three rows, row j + 1 in its columns
 abbrev pub stored : ℕ → Lent → Rows
 stored places lent zero z = entryOf (lent .low) (lent .high) (lent .bound) z
-stored places lent (suc j) z = record {
-  low = getD (lent .work) (columnsAt places j + z) (pos 0);
-  high = getD (lent .work) (columnsAt places j + places + z) (pos 0);
-  bound = getD (lent .work) (columnsAt places j + places + places + z) (pos 0);
-}
+stored places lent (suc j) z = columnEntry (lent .work) (columnsAt places j) places z
 
--- an entry put at total x of the three columns that begin at a place
+-- and an entry put there
 abbrev pub putColumns : List ℤ → ℕ → ℕ → ℕ → Entry → List ℤ
 putColumns work at places x e =
     set (set (set work (at + x) (e .low)) (at + places + x) (e .high)) (at + places + places + x) (e .bound)
