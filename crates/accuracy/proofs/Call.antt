@@ -1,31 +1,22 @@
 -- What an acceptance says: every check was passed, no entry has a fault, so the lent rows hold row 0 of the curve.
-use mathlib.Core.Path.{_≡_, refl, sym, _∙_, ap}
-use mathlib.Core.Bool.{Bool, true, false, cond}
-use mathlib.Core.List.{List, _++_}
+use mathlib.Core.Path.{_≡_, _∙_, ap}
+use mathlib.Core.Bool.{Bool, cond}
+use mathlib.Core.List.{List}
 use Prim.Native.Nat.{ℕ, _+_, _≤_}
 use native.Mathlib.Omega.{arith}
-use lib.Dec.{T}
 use lib.IntN.{ℤ, pos}
 use lib.ListN.{length, getD, drop, List·getD-append}
 use Rattle.algebra.specs.Slice.{listed, written}
 use Rattle.algebra.proofs.Slice.{listed-length, listed-at}
 use Rattle.model.specs.declared.Job.{Job}
-use Rattle.model.specs.Answer.{Condition, accepted, isAccepted, firstOf}
-use Rattle.model.proofs.Answer.{numbered, first-append}
+use Rattle.model.specs.Answer.{accepted, firstOf}
+use Rattle.model.proofs.Answer.{first-passed}
 use Rattle.enclosure.specs.declared.Entry.{Entry}
 use Rattle.compound.specs.Curve.{curveRows}
 use Rattle.compound.specs.Call.{Lent, checks, faults, curveAnswer, rowAfter, ran, curveLent}
 use Rattle.compound.specs.Room.{Limits, LongEnough}
 use Rattle.compound.proofs.Call.{checked-limits}
 use Rattle.accuracy.specs.Accuracy.{Accepted, shown}
-
--- the first of two lists that refuse nothing one after the other
-first-passed : (cs ds : List Condition) → T (numbered cs) → firstOf (cs ++ ds) ≡ accepted → isAccepted (firstOf cs) ≡ true
-first-passed cs ds t e = by (isAccepted (firstOf cs)) refl (sym (first-append cs ds t) ∙ e)
-  where
-    by : (b : Bool) → isAccepted (firstOf cs) ≡ b → cond b (firstOf ds) (firstOf cs) ≡ accepted → isAccepted (firstOf cs) ≡ true
-    by true p q = p
-    by false p q = ap isAccepted q
 
 module _ (job : Job) (weights : List ℕ) (lent : Lent) (ok : Accepted job weights lent) where
   passed : Limits job weights × LongEnough (job .last + 1) lent × (firstOf (faults job weights) ≡ accepted)

@@ -2,14 +2,14 @@
 use mathlib.Core.Path.{_≡_, refl, sym, _∙_, ap}
 use mathlib.Core.List.{List, [], _∷_, _++_, append-assoc}
 use mathlib.Core.Logic.{_⊎_, inl, inr}
-use Prim.Native.Nat.{ℕ, zero, suc, _+_, _-_, _<_}
+use Prim.Native.Nat.{ℕ, zero, suc, _-_, _<_}
 use native.Mathlib.Nat as NL
 use native.Mathlib.Numerals.{add-one}
 use native.Mathlib.Omega.{arith}
 use lib.ListN.{length, set, getD, drop, length-append, length-drop, List·getD-append}
-use lib.Seq.{getD-at, take-all, drop-cons, set-append-seam, drop-append-add, drop-drop}
-use Rattle.algebra.specs.Slice.{listed, written, DropNext, PartToEnd, ListedLength, ListedAt}
-use Rattle.algebra.specs.Slice.{WrittenLength, WrittenNext, WrittenAgain}
+use lib.Seq.{getD-at, take-all, drop-cons, set-append-seam}
+use Rattle.algebra.specs.Slice.{listed, DropNext, PartToEnd, ListedLength, ListedAt}
+use Rattle.algebra.specs.Slice.{WrittenLength, WrittenNext}
 
 module _ {A : Type 0} where
   pub drop-next : DropNext A
@@ -44,13 +44,3 @@ module _ {A : Type 0} where
     where
       one-more : length (front ++ (v ∷ [])) ≡ suc (length front)
       one-more = simp length-append (omega arith)
-
-  pub written-again : WrittenAgain A
-  written-again first second row h = ap (λ (l : List A). second ++ l)
-      (ap (λ (k : ℕ). drop k (written first row)) apart
-      ∙ drop-append-add first (drop (length first) row) (length second - length first)
-      ∙ drop-drop (length second - length first) (length first) row
-      ∙ ap (λ (k : ℕ). drop k row) (sym apart))
-    where
-      apart : length second ≡ length first + (length second - length first)
-      apart = omega arith

@@ -35,7 +35,3 @@ module _ (A : Type 0) where
   abbrev pub WrittenNext : Type 0
   WrittenNext = (front row : List A) (v : A) → length front < length row
       → set (written front row) (length front) v ≡ written (front ++ (v ∷ [])) row
-
-  -- writing at least as far again leaves nothing of what was written first
-  abbrev pub WrittenAgain : Type 0
-  WrittenAgain = (first second row : List A) → length first ≤ length second → written second (written first row) ≡ written second row

@@ -6,39 +6,24 @@ use mathlib.Core.Logic.{_⊎_, inl, inr}
 use Prim.Native.Nat.{ℕ, zero, suc, _+_, _<_}
 use native.Mathlib.Nat as NL
 use native.Mathlib.Omega.{arith}
-use lib.IntN.{ℤ}
-use lib.ListN.{set, length-set}
-use lib.Seq.{drop-set-lt}
 use Rattle.algebra.proofs.Sum.{accumulate-zero, accumulate-next}
 use Rattle.model.specs.declared.Job.{Job}
 use Rattle.enclosure.specs.declared.Entry.{Entry}
 use Rattle.compound.specs.declared.fill.Faults.{Faults}
 use Rattle.enclosure.specs.Entry.{outOfRange, boundTooLarge}
 use Rattle.compound.specs.Curve.{Rows, entryAt}
-use Rattle.compound.specs.Call.{Lent, workPlaces}
+use Rattle.compound.specs.Call.{Lent}
 use Rattle.enclosure.specs.Term.{Small}
-use Rattle.compound.specs.Room.{Reachable, Ready, columnsAt, stored, placed, faultsBelow, Kept, Advanced}
+use Rattle.compound.specs.Room.{Reachable, Ready, columnsAt, stored, placed, faultsBelow, RowsKept, Advanced}
+use Rattle.compound.proofs.Kept.{kept-set, rows-untouched, long-kept}
 use Rattle.compound.proofs.Recursion.{entry-local}
 use Rattle.compound.proofs.Stored.{columns-in, placed-other, placed-own}
 use Rattle.compound.proofs.Sums.{reachable}
 
--- ---- places that keep what they held
-pub kept-all : (n : ℕ) (row : List ℤ) → Kept n row row
-kept-all n row = record { same-length = refl; later = refl }
-
-kept-set : (n : ℕ) (row row₀ : List ℤ) (i : ℕ) (v : ℤ) → i < n → Kept n row row₀ → Kept n (set row i v) row₀
-kept-set n row row₀ i v h k = record {
-  same-length = length-set row i v ∙ k .same-length;
-  later = drop-set-lt n row i v h ∙ k .later;
-}
-
 module _ (job : Job) (weights : List ℕ) (places x : ℕ) (lent₀ : Lent) (ready : Ready (job .law) weights places x lent₀) where
   pub advanced-first : Advanced job weights places x 0 lent₀ lent₀
   advanced-first = record {
-    low-kept = kept-all (x + 1) (lent₀ .low);
-    high-kept = kept-all (x + 1) (lent₀ .high);
-    bound-kept = kept-all (x + 1) (lent₀ .bound);
-    work-kept = kept-all (workPlaces places) (lent₀ .work);
+    kept = rows-untouched (x + 1) places lent₀;
     earlier = λ j z h l. refl;
     entries = λ j h. absurd (NL.not-suc-le-zero h);
   }
@@ -49,12 +34,7 @@ module _ (job : Job) (weights : List ℕ) (places x : ℕ) (lent₀ : Lent) (rea
     advanced-ready = record {
       law-limits = ready .law-limits;
       table-limits = ready .table-limits;
-      long = record {
-        low-long = rw (so-far .low-kept .same-length) (ready .long .low-long);
-        high-long = rw (so-far .high-kept .same-length) (ready .long .high-long);
-        bound-long = rw (so-far .bound-kept .same-length) (ready .long .bound-long);
-        work-long = rw (so-far .work-kept .same-length) (ready .long .work-long);
-      };
+      long = long-kept places lent lent₀ (x + 1) (so-far .kept) (ready .long);
       places-most = ready .places-most;
       total-below = ready .total-below;
       earlier = λ j z h l. subst Small (sym (so-far .earlier j z h l)) (ready .earlier j z h l);
@@ -65,39 +45,32 @@ module _ (job : Job) (weights : List ℕ) (places x : ℕ) (lent₀ : Lent) (rea
         → entryAt job weights (stored places lent) j x ≡ entryAt job weights (stored places lent₀) j x
     entry-same j h = entry-local job weights (stored places lent) (stored places lent₀) j x h (so-far .earlier)
 
-    placed-kept : (j : ℕ) (e : Entry) → Reachable places x lent j
-        → Kept (x + 1) (placed places lent j x e .low) (lent₀ .low) × Kept (x + 1) (placed places lent j x e .high) (lent₀ .high)
-        × Kept (x + 1) (placed places lent j x e .bound) (lent₀ .bound)
-        × Kept (workPlaces places) (placed places lent j x e .work) (lent₀ .work)
-    placed-kept zero e h = (
-      kept-set (x + 1) (lent .low) (lent₀ .low) x (e .low) (omega arith) (so-far .low-kept),
-      kept-set (x + 1) (lent .high) (lent₀ .high) x (e .high) (omega arith) (so-far .high-kept),
-      kept-set (x + 1) (lent .bound) (lent₀ .bound) x (e .bound) (omega arith) (so-far .bound-kept),
-      so-far .work-kept,
-    )
+    placed-kept : (j : ℕ) (e : Entry) → Reachable places x lent j → RowsKept (x + 1) places (placed places lent j x e) lent₀
+    placed-kept zero e h = record {
+      low = kept-set (x + 1) (lent .low) (lent₀ .low) x (e .low) (omega arith) (so-far .kept .low);
+      high = kept-set (x + 1) (lent .high) (lent₀ .high) x (e .high) (omega arith) (so-far .kept .high);
+      bound = kept-set (x + 1) (lent .bound) (lent₀ .bound) x (e .bound) (omega arith) (so-far .kept .bound);
+      work = so-far .kept .work;
+    }
     placed-kept (suc j) e h =
         let within = columns-in places j (omega (arith, h .row-most)) in
-        let below = h .total-below in (
-          so-far .low-kept,
-          so-far .high-kept,
-          so-far .bound-kept,
-          kept-set (workPlaces places) _ (lent₀ .work) (columnsAt places j + places + places + x) (e .bound) (omega (arith, within, below))
-              (kept-set (workPlaces places) _ (lent₀ .work) (columnsAt places j + places + x) (e .high) (omega (arith, within, below))
-              (kept-set (workPlaces places) (lent .work) (lent₀ .work) (columnsAt places j + x) (e .low) (omega (arith, within, below))
-              (so-far .work-kept))),
-        )
+        let below = h .total-below in
+        record {
+          low = so-far .kept .low;
+          high = so-far .kept .high;
+          bound = so-far .kept .bound;
+          work = kept-set _ _ _ (columnsAt places j + places + places + x) (e .bound) (omega (arith, within, below))
+              (kept-set _ _ _ (columnsAt places j + places + x) (e .high) (omega (arith, within, below))
+              (kept-set _ _ _ (columnsAt places j + x) (e .low) (omega (arith, within, below)) (so-far .kept .work)));
+        }
 
     -- one row more
     pub advanced-put : n < job .law .order → (e : Entry) → e ≡ entryAt job weights (stored places lent) n x
         → Advanced job weights places x (n + 1) lent₀ (placed places lent n x e)
     advanced-put h e rule =
         let reach = reachable (job .law) weights x places lent advanced-ready n h in
-        let kept = placed-kept n e reach in
         record {
-          low-kept = kept .0;
-          high-kept = kept .1;
-          bound-kept = kept .2;
-          work-kept = kept .3;
+          kept = placed-kept n e reach;
           earlier = λ j z k l.
               placed-other places lent x e n j z (reach .total-below) (omega (arith, reach .total-below)) (λ p q. omega arith)
               ∙ so-far .earlier j z k l;

@@ -52,7 +52,6 @@ module _ (job : Job) (weights : List ℕ) (lent : Lent) where
                 (right (term .0) i l));
           };
           table = record {
-            severities-most = within 1 500 _ (severities .0) .1;
             weights-least = within 1 1000 _ (weight .0) .0;
             weights-most = within 1 1000 _ (weight .0) .1;
           };

@@ -4,15 +4,13 @@ use mathlib.Core.Path.{_≡_, sym, ap, _∙_, subst}
 use mathlib.Core.Bool.{Bool, true, false, _||_, true≢false}
 use mathlib.Core.List.{List, []}
 use mathlib.Core.Logic.{_⊎_, inl, inr}
-use Prim.Native.Nat.{ℕ, zero, suc, _+_, _-_, _*_, _≤_, _<_}
+use Prim.Native.Nat.{ℕ, zero, suc, _+_, _*_, _≤_, _<_}
 use native.Mathlib.Nat as NL
 use native.Mathlib.Omega.{arith}
 use borrow.Author.Tests.{ltb-false, lt-ltb, le-ltb}
 use lib.Dec.{ltb}
 use lib.IntN.{ℤ, pos, negsuc, natAbs}
 use lib.Signed.{ltZ, _≤ℤ_}
-use lib.ListN.{drop}
-use lib.Seq.{drop-drop}
 use Rattle.algebra.specs.Smallest.{FailBelow}
 use Rattle.algebra.specs.Sum.{accumulate}
 use Rattle.algebra.proofs.Smallest.{smallest-is}
@@ -22,10 +20,11 @@ use Rattle.model.specs.Answer.{accepted, refused, isAccepted, firstOf}
 use Rattle.model.proofs.Answer.{first-none, first-holds, first-fails}
 use Rattle.enclosure.specs.Entry.{unit, outOfRange, boundTooLarge}
 use Rattle.compound.specs.Curve.{Rows, entryAt, curveRows}
-use Rattle.compound.specs.Call.{Lent, workPlaces, anyRow, faultAt, firstFault, faults}
+use Rattle.compound.specs.Call.{Lent, anyRow, faultAt, firstFault, faults}
 use Rattle.enclosure.specs.Term.{Small}
-use Rattle.compound.specs.Room.{Limits, LongEnough, Ready, stored, faultsBelow, Kept, Advanced, Filled}
-use Rattle.compound.proofs.Advanced.{kept-all, same-faults}
+use Rattle.compound.specs.Room.{Limits, LongEnough, Ready, stored, faultsBelow, RowsKept, Advanced, Filled}
+use Rattle.compound.proofs.Kept.{rows-untouched, rows-further, rows-step, long-kept}
+use Rattle.compound.proofs.Advanced.{same-faults}
 use Rattle.algebra.proofs.Or.{or-left, or-right}
 use Rattle.compound.proofs.Recursion.{curve-rule, entry-local}
 use Rattle.compound.proofs.Nonnegative.{bound-nonneg}
@@ -45,32 +44,9 @@ size-most : (z : ℤ) (limit : ℕ) → pos 0 ≤ℤ z → ltZ (pos limit) z ≡
 size-most (pos n) limit p e = ltb-false limit n e
 size-most (negsuc n) limit p e = absurd (p .le)
 
--- ---- rows that are written
-kept-further : (m n : ℕ) (row row₀ : List ℤ) → m ≤ n → Kept m row row₀ → Kept n row row₀
-kept-further m n row row₀ h k = record {
-  same-length = k .same-length;
-  later = further row ∙ ap (drop (n - m)) (k .later) ∙ sym (further row₀);
-}
-  where
-    apart : n ≡ m + (n - m)
-    apart = omega arith
-
-    further : (row : List ℤ) → drop n row ≡ drop (n - m) (drop m row)
-    further row = ap (λ (i : ℕ). drop i row) apart ∙ sym (drop-drop (n - m) m row)
-
--- a total is written, and then the next: from n on both leave what was there
-kept-step : (x n : ℕ) (row row₁ row₀ : List ℤ) → x + 1 ≤ n → Kept (x + 1) row row₁ → Kept x row₁ row₀ → Kept n row row₀
-kept-step x n row row₁ row₀ h p q =
-    let next = kept-further (x + 1) n row row₁ h p in
-    let first = kept-further x n row₁ row₀ (omega arith) q in
-    record { same-length = next .same-length ∙ first .same-length; later = next .later ∙ first .later }
-
 -- ---- what is known where total x is reached: below it the rows hold the curve, without a fault
 pub record Reached (job : Job) (weights : List ℕ) (lent₀ : Lent) (x : ℕ) (lent : Lent) : Type 0 where
-  pub low-kept : Kept x (lent .low) (lent₀ .low)
-  pub high-kept : Kept x (lent .high) (lent₀ .high)
-  pub bound-kept : Kept x (lent .bound) (lent₀ .bound)
-  pub work-kept : Kept (workPlaces (job .last + 1)) (lent .work) (lent₀ .work)
+  pub kept : RowsKept x (job .last + 1) lent lent₀
   pub entries : (j z : ℕ) → j < job .law .order → z < x → stored (job .last + 1) lent j z ≡ curveRows job weights j z
   pub sound : FailBelow (faultAt (job .law .order) (curveRows job weights)) x
 
@@ -121,10 +97,7 @@ module _ (job : Job) (weights : List ℕ) (limits : Limits job weights) where
   -- ---- total by total
   pub reached-first : (lent₀ : Lent) → Reached job weights lent₀ 0 lent₀
   reached-first lent₀ = record {
-    low-kept = kept-all 0 (lent₀ .low);
-    high-kept = kept-all 0 (lent₀ .high);
-    bound-kept = kept-all 0 (lent₀ .bound);
-    work-kept = kept-all (workPlaces places) (lent₀ .work);
+    kept = rows-untouched 0 places lent₀;
     entries = λ j z h l. absurd (NL.not-suc-le-zero l);
     sound = λ z l. absurd (NL.not-suc-le-zero l);
   }
@@ -134,12 +107,7 @@ module _ (job : Job) (weights : List ℕ) (limits : Limits job weights) where
     reached-ready h = record {
       law-limits = limits .law;
       table-limits = limits .table;
-      long = record {
-        low-long = rw (here .low-kept .same-length) (long .low-long);
-        high-long = rw (here .high-kept .same-length) (long .high-long);
-        bound-long = rw (here .bound-kept .same-length) (long .bound-long);
-        work-long = rw (here .work-kept .same-length) (long .work-long);
-      };
+      long = long-kept places lent lent₀ x (here .kept) long;
       places-most = omega (arith, limits .last-most);
       total-below = h;
       earlier = λ j z k l. subst Small (sym (here .entries j z k l)) (small j z k (here .sound z l));
@@ -154,19 +122,14 @@ module _ (job : Job) (weights : List ℕ) (limits : Limits job weights) where
         (accumulate-cong false _||_ order (λ j l. ap boundTooLarge (rule-curve j l)))
 
     module _ (lent′ : Lent) (step : Advanced job weights places x order lent lent′) where
-      work-twice : Kept (workPlaces places) (lent′ .work) (lent₀ .work)
-      work-twice = record {
-        same-length = step .work-kept .same-length ∙ here .work-kept .same-length;
-        later = step .work-kept .later ∙ here .work-kept .later;
-      }
+      -- seen from n on
+      pub step-kept : (n : ℕ) → x + 1 ≤ n → RowsKept n places lent′ lent₀
+      step-kept n h = rows-step places lent′ lent lent₀ x n h (step .kept) (here .kept)
 
       -- one total more, where it has no fault
       pub reached-next : faultAt order curve x ≡ false → Reached job weights lent₀ (x + 1) lent′
       reached-next e = record {
-        low-kept = kept-step x (x + 1) _ _ _ (NL.le-refl (x + 1)) (step .low-kept) (here .low-kept);
-        high-kept = kept-step x (x + 1) _ _ _ (NL.le-refl (x + 1)) (step .high-kept) (here .high-kept);
-        bound-kept = kept-step x (x + 1) _ _ _ (NL.le-refl (x + 1)) (step .bound-kept) (here .bound-kept);
-        work-kept = work-twice;
+        kept = step-kept (x + 1) (NL.le-refl (x + 1));
         entries = λ j z h l. entry j z h (NL.eq-or-lt-of-le (omega arith));
         sound = λ z l. passes z (NL.eq-or-lt-of-le (omega arith));
       }
@@ -181,20 +144,11 @@ module _ (job : Job) (weights : List ℕ) (limits : Limits job weights) where
 
       -- the rows at a total that has a fault
       pub filled-fault : x < places → isAccepted (firstOf (faults job weights)) ≡ false → Filled job weights lent₀ lent′
-      filled-fault h e = record {
-        low-kept = kept-step x places _ _ _ (omega arith) (step .low-kept) (here .low-kept);
-        high-kept = kept-step x places _ _ _ (omega arith) (step .high-kept) (here .high-kept);
-        bound-kept = kept-step x places _ _ _ (omega arith) (step .bound-kept) (here .bound-kept);
-        work-kept = work-twice;
-        curve = λ t. absurd (true≢false (sym t ∙ e));
-      }
+      filled-fault h e = record { kept = step-kept places (omega arith); curve = λ t. absurd (true≢false (sym t ∙ e)) }
 
     -- the rows at the end
     pub filled-end : x ≡ places → Filled job weights lent₀ lent
     filled-end e = record {
-      low-kept = kept-further x places _ _ (NL.le-of-eq e) (here .low-kept);
-      high-kept = kept-further x places _ _ (NL.le-of-eq e) (here .high-kept);
-      bound-kept = kept-further x places _ _ (NL.le-of-eq e) (here .bound-kept);
-      work-kept = here .work-kept;
+      kept = rows-further places lent lent₀ x places (NL.le-of-eq e) (here .kept);
       curve = λ t z l. here .entries 0 z (limits .law .order-least) (omega arith);
     }

@@ -5,6 +5,7 @@ pub mod Call
 pub mod Recursion
 pub mod Preserved
 pub mod Nonnegative
+pub mod Kept
 pub mod Stored
 pub mod Sums
 pub mod Advanced

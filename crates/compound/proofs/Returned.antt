@@ -1,15 +1,12 @@
--- What the call returns, by how far it came: refused by the checks, refused at a total, or accepted. Rows whose later places are kept are
--- rows that are written from the front.
+-- What the call returns, by how far it came: refused by the checks, refused at a total, or accepted.
 use mathlib.Core.Path.{_≡_, refl, sym, ap, _∙_}
 use mathlib.Core.Bool.{Bool, true, false, cond, true≢false}
-use mathlib.Core.List.{List, _++_}
+use mathlib.Core.List.{List}
 use Prim.Native.Nat.{ℕ, _+_, _≤_, _<_}
 use lib.Dec.{eqb}
 use lib.IntN.{ℤ, pos}
-use lib.ListN.{length, getD, take, drop, replicate, length-replicate, take-append-drop}
-use lib.Seq.{length-take-le, getD-take, ext-getD}
+use lib.ListN.{length, getD, replicate, length-replicate}
 use Rattle.algebra.specs.Slice.{listed, written}
-use Rattle.algebra.proofs.Slice.{listed-length, listed-at}
 use Rattle.model.specs.declared.Job.{Job}
 use Rattle.model.specs.Answer.{Answer, accepted, isAccepted, firstOf}
 use Rattle.model.proofs.Answer.{first-append}
@@ -21,6 +18,7 @@ use Rattle.compound.specs.declared.CurveAnswer.the-variants.{Accepted, R
 use Rattle.compound.specs.Curve.{curveRows}
 use Rattle.compound.specs.Call.{numberOf, paper, Lent, lentRows, workPlaces, checks, faults, curveAnswer, rowAfter, ran, curveLent}
 use Rattle.compound.specs.Room.{LongEnough, Kept, Filled}
+use Rattle.compound.proofs.Kept.{kept-written, kept-listed}
 use Rattle.compound.proofs.Stored.{same-lent}
 
 -- ---- answers of the code
@@ -40,27 +38,6 @@ numbered Bound = refl
 pub accepted-paper : (a : CurveAnswer) → isAccepted (paper a) ≡ true → paper a ≡ accepted
 accepted-paper Accepted e = refl
 accepted-paper (Refused reason place) e = absurd (true≢false (sym e ∙ numbered reason))
-
--- ---- rows
--- where n places are written, the later ones count
-kept-written : (front row row₀ : List ℤ) (n : ℕ) → length front ≡ n → Kept n row row₀ → written front row ≡ written front row₀
-kept-written front row row₀ n e k = ap (λ (rest : List ℤ). front ++ rest)
-    (ap (λ (i : ℕ). drop i row) e ∙ k .later ∙ ap (λ (i : ℕ). drop i row₀) (sym e))
-
--- a row by its first n places
-kept-listed : (f : ℕ → ℤ) (row row₀ : List ℤ) (n : ℕ) → n ≤ length row₀ → Kept n row row₀ → ((z : ℕ) → z < n → getD row z (pos 0) ≡ f z)
-    → row ≡ written (listed f n) row₀
-kept-listed f row row₀ n h k at =
-    sym (take-append-drop n row)
-    ∙ ap (λ (front : List ℤ). front ++ drop n row) first
-    ∙ ap (λ (rest : List ℤ). listed f n ++ rest) (k .later ∙ ap (λ (i : ℕ). drop i row₀) (sym (listed-length f n)))
-  where
-    taken : length (take n row) ≡ n
-    taken = length-take-le n row (rw (k .same-length) h)
-
-    first : take n row ≡ listed f n
-    first = ext-getD (pos 0) (take n row) (listed f n) (taken ∙ sym (listed-length f n)) (λ z l.
-        getD-take n row z (pos 0) (rw taken at l) ∙ at z (rw taken at l) ∙ sym (listed-at f n z (pos 0) (rw taken at l)))
 
 module _ (job : Job) (weights : List ℕ) (lent₀ : Lent) where
   abbrev places : ℕ
@@ -110,15 +87,15 @@ module _ (job : Job) (weights : List ℕ) (lent₀ : Lent) where
       zeros row row₀ n = kept-written (replicate n (pos 0)) row row₀ n (length-replicate n (pos 0))
 
       work-zeros : work ≡ written (replicate (workPlaces places) (pos 0)) (lent₀ .work)
-      work-zeros = clear ∙ zeros _ _ (workPlaces places) (filled .work-kept)
+      work-zeros = clear ∙ zeros _ _ (workPlaces places) (filled .kept .work)
 
       -- refused at a total: the rows were cleared
       pub fault-rows : isAccepted (firstOf (faults job weights)) ≡ false → (low high bound : List ℤ)
           → low ≡ written (replicate places (pos 0)) (lent .low) → high ≡ written (replicate places (pos 0)) (lent .high)
           → bound ≡ written (replicate places (pos 0)) (lent .bound) → lentRows low high bound work ≡ curveLent job weights lent₀
       fault-rows e low high bound p q r =
-          same-lent (p ∙ cleared (λ e. e .low) _ _ (filled .low-kept)) (q ∙ cleared (λ e. e .high) _ _ (filled .high-kept))
-          (r ∙ cleared (λ e. e .bound) _ _ (filled .bound-kept)) work-zeros
+          same-lent (p ∙ cleared (λ e. e .low) _ _ (filled .kept .low)) (q ∙ cleared (λ e. e .high) _ _ (filled .kept .high))
+          (r ∙ cleared (λ e. e .bound) _ _ (filled .kept .bound)) work-zeros
           ∙ late-rows
         where
           cleared : (column : Entry → ℤ) (row row₀ : List ℤ) → Kept places row row₀
@@ -129,9 +106,9 @@ module _ (job : Job) (weights : List ℕ) (lent₀ : Lent) where
       pub end-rows : LongEnough places lent₀ → isAccepted (firstOf (faults job weights)) ≡ true
           → lentRows (lent .low) (lent .high) (lent .bound) work ≡ curveLent job weights lent₀
       end-rows long e =
-          same-lent (held (λ e. e .low) _ _ (long .low-long) (filled .low-kept) (λ z l. ap (λ (e : Entry). e .low) (filled .curve e z l)))
-          (held (λ e. e .high) _ _ (long .high-long) (filled .high-kept) (λ z l. ap (λ (e : Entry). e .high) (filled .curve e z l)))
-          (held (λ e. e .bound) _ _ (long .bound-long) (filled .bound-kept) (λ z l. ap (λ (e : Entry). e .bound) (filled .curve e z l)))
+          same-lent (held (λ e. e .low) _ _ (long .low-long) (filled .kept .low) (λ z l. ap (λ (e : Entry). e .low) (filled .curve e z l)))
+          (held (λ e. e .high) _ _ (long .high-long) (filled .kept .high) (λ z l. ap (λ (e : Entry). e .high) (filled .curve e z l)))
+          (held (λ e. e .bound) _ _ (long .bound-long) (filled .kept .bound) (λ z l. ap (λ (e : Entry). e .bound) (filled .curve e z l)))
           work-zeros
           ∙ late-rows
         where

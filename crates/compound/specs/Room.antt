@@ -28,9 +28,8 @@ pub record LawLimits (law : Law) : Type 0 where
   pub a-small : (i : ℕ) → i < 4 → natAbs (getD (law .a) i (pos 0)) ≤ 1000
   pub b-small : (i : ℕ) → i < 4 → natAbs (getD (law .b) i (pos 0)) ≤ 1000
 
--- what checks 5 and 6 leave of its table
+-- what check 6 leaves of its table
 pub record TableLimits (weights : List ℕ) : Type 0 where
-  pub severities-most : length weights ≤ 500
   pub weights-least : 1 ≤ totalWeight weights
   pub weights-most : totalWeight weights ≤ 1000
 
@@ -122,20 +121,21 @@ pub record Kept (n : ℕ) (row row₀ : List ℤ) : Type 0 where
   pub same-length : length row ≡ length row₀
   pub later : drop n row ≡ drop n row₀
 
+-- the same of the lent rows: of the three from n on, of the work row past the places that the call uses
+pub record RowsKept (n places : ℕ) (lent lent₀ : Lent) : Type 0 where
+  pub low : Kept n (lent .low) (lent₀ .low)
+  pub high : Kept n (lent .high) (lent₀ .high)
+  pub bound : Kept n (lent .bound) (lent₀ .bound)
+  pub work : Kept (workPlaces places) (lent .work) (lent₀ .work)
+
 -- the lent rows after the entries of the rows below n were put at total x
 pub record Advanced (job : Job) (weights : List ℕ) (places x n : ℕ) (lent₀ lent : Lent) : Type 0 where
-  pub low-kept : Kept (x + 1) (lent .low) (lent₀ .low)
-  pub high-kept : Kept (x + 1) (lent .high) (lent₀ .high)
-  pub bound-kept : Kept (x + 1) (lent .bound) (lent₀ .bound)
-  pub work-kept : Kept (workPlaces places) (lent .work) (lent₀ .work)
+  pub kept : RowsKept (x + 1) places lent lent₀
   pub earlier : (j z : ℕ) → j < job .law .order → z < x → stored places lent j z ≡ stored places lent₀ j z
   pub entries : (j : ℕ) → j < n → stored places lent j x ≡ entryAt job weights (stored places lent₀) j x
 
 -- the lent rows after the run of the totals: later places keep what they held, and where no total has a fault row 0 is the curve
 pub record Filled (job : Job) (weights : List ℕ) (lent₀ lent : Lent) : Type 0 where
-  pub low-kept : Kept (job .last + 1) (lent .low) (lent₀ .low)
-  pub high-kept : Kept (job .last + 1) (lent .high) (lent₀ .high)
-  pub bound-kept : Kept (job .last + 1) (lent .bound) (lent₀ .bound)
-  pub work-kept : Kept (workPlaces (job .last + 1)) (lent .work) (lent₀ .work)
+  pub kept : RowsKept (job .last + 1) (job .last + 1) lent lent₀
   pub curve : isAccepted (firstOf (faults job weights)) ≡ true
       → (z : ℕ) → z < job .last + 1 → entryOf (lent .low) (lent .high) (lent .bound) z ≡ curveRows job weights 0 z

@@ -1,5 +1,5 @@
 -- Laws of `firstOf`, by induction on the list of conditions.
-use mathlib.Core.Path.{_≡_, refl, ap}
+use mathlib.Core.Path.{_≡_, refl, sym, _∙_, ap}
 use mathlib.Core.Bool.{Bool, true, false, cond}
 use mathlib.Core.List.{List, [], _∷_, _++_}
 use Prim.Native.Nat.{ℕ, suc}
@@ -51,3 +51,11 @@ first-append (c ∷ cs) ds t = by (c .holds) (first-append cs ds (and-right (ltb
         → cond b refusal (firstOf (cs ++ ds)) ≡ cond (isAccepted (cond b refusal (firstOf cs))) (firstOf ds) (cond b refusal (firstOf cs))
     by true e = rw refuses
     by false e = e
+
+-- where both together refuse nothing, the first does not
+pub first-passed : (cs ds : List Condition) → T (numbered cs) → firstOf (cs ++ ds) ≡ accepted → isAccepted (firstOf cs) ≡ true
+first-passed cs ds t e = by (isAccepted (firstOf cs)) refl (sym (first-append cs ds t) ∙ e)
+  where
+    by : (b : Bool) → isAccepted (firstOf cs) ≡ b → cond b (firstOf ds) (firstOf cs) ≡ accepted → isAccepted (firstOf cs) ≡ true
+    by true p q = p
+    by false p q = ap isAccepted q

@@ -3,14 +3,14 @@ use borrow.Author.Needs.{needs}
 use borrow.Author.Tests.{not-true, not-false}
 use mathlib.Core.Path.{_≡_, sym, ap, _∙_}
 use mathlib.Core.List.{List, []}
-use Prim.Native.Nat.{ℕ, _+_, _≤_}
+use Prim.Native.Nat.{ℕ, _+_}
 use native.Mathlib.Omega.{arith}
-use lib.ListN.{length}
 use Rattle.model.specs.declared.Job.{Job}
 use Rattle.model.specs.Answer.{accepted, isAccepted, firstOf}
 use Rattle.compound.specs.Call.{Lent, lentRows, paper, checks}
 use Rattle.compound.specs.Room.{Limits, LongEnough, Filled}
 use Rattle.compound.proofs.Call.{checked-limits}
+use Rattle.compound.proofs.Kept.{long-kept}
 use Rattle.compound.proofs.Returned.{accepted-paper, early-answer, early-rows, late-answer, fault-rows, end-rows}
 use Rattle.compound.proofs.curve.Statement.{statement}
 use Rattle.compound.proofs.curve.Tie as tie
@@ -70,14 +70,8 @@ module _ (c : tie.After-fill) where
   filled : Filled (job (start else)) (weights (start else)) (lent₀ (start else)) lent
   filled = c .fill .ensures .1
 
-  low-long : job (start else) .last + 1 ≤ length (lent .low)
-  low-long = rw (filled .low-kept .same-length) (long else .low-long)
-
-  high-long : job (start else) .last + 1 ≤ length (lent .high)
-  high-long = rw (filled .high-kept .same-length) (long else .high-long)
-
-  bound-long : job (start else) .last + 1 ≤ length (lent .bound)
-  bound-long = rw (filled .bound-kept .same-length) (long else .bound-long)
+  still-long : LongEnough (job (start else) .last + 1) lent
+  still-long = long-kept _ lent (lent₀ (start else)) _ (filled .kept) (long else)
 
 mul-clear : tie.Need-mul-clear
 mul-clear c = let f = c .before .before .before .before .before in record { fits = omega (arith, limits (else f) .last-most) }
@@ -85,20 +79,20 @@ mul-clear c = let f = c .before .before .before .before .before in record { fits
 clear-requires : tie.Need-clear-requires
 clear-requires c κs =
     let f = c .before .before .before .before .before in
-    omega (arith, filled f .work-kept .same-length, long (else f) .work-long)
+    omega (arith, still-long f .work-long)
 
 -- the work row cleared
 abbrev fill-of : tie.After-is-refused2 → tie.After-fill
 fill-of c = c .before .before .before .before .before .before .before .before
 
 clear-requires-2 : tie.Need-clear-requires-2
-clear-requires-2 c κs = low-long (fill-of (c .before .before))
+clear-requires-2 c κs = still-long (fill-of (c .before .before)) .low-long
 
 clear-requires-3 : tie.Need-clear-requires-3
-clear-requires-3 c κs = high-long (fill-of (c .before .before .before .before .before))
+clear-requires-3 c κs = still-long (fill-of (c .before .before .before .before .before)) .high-long
 
 clear-requires-4 : tie.Need-clear-requires-4
-clear-requires-4 c κs = bound-long (fill-of (c .before .before .before .before .before .before .before .before))
+clear-requires-4 c κs = still-long (fill-of (c .before .before .before .before .before .before .before .before)) .bound-long
 
 -- ---- refused at a total
 returns-2 : tie.Need-returns-2

@@ -4,17 +4,17 @@ use mathlib.Core.Path.{_≡_, refl, sym, ap, _∙_}
 use mathlib.Core.Bool.{false}
 use mathlib.Core.List.{List}
 use Prim.Native.Nat.{ℕ, _≤_, _<_, _-_, _+_}
+use native.Mathlib.Nat.{le-refl}
 use native.Mathlib.Omega.{arith}
 use Rattle.exact.specs.Severity.{totalWeight}
 use lib.Dec.{eqb}
-use lib.ListN.{length}
 use Rattle.model.specs.declared.Job.{Job}
 use Rattle.model.specs.Answer.{refused, isAccepted, firstOf}
 use Rattle.compound.specs.declared.fill.Faults.{Faults}
 use Rattle.compound.specs.Curve.{curveRows}
 use Rattle.compound.specs.Call.{Lent, lentRows, faultAt, faults}
-use Rattle.compound.specs.Room.{faultsBelow, Advanced, Filled}
-use Rattle.compound.proofs.Filled.{Reached, reached-first, reached-ready, faults-curve, reached-next, filled-fault, filled-end}
+use Rattle.compound.specs.Room.{faultsBelow, RowsKept, Advanced, Filled}
+use Rattle.compound.proofs.Filled.{Reached, reached-first, reached-ready, faults-curve, step-kept, reached-next, filled-fault, filled-end}
 use Rattle.compound.proofs.Filled.{found-range, found-bound, found-none}
 use Rattle.compound.proofs.fill.fill.Statement.{statement}
 use Rattle.compound.proofs.fill.fill.Tie as tie
@@ -92,17 +92,8 @@ module _ (c : tie.After-work Inv-loop μ-loop) where
   found = call .fill-total .ensures .0
       ∙ faults-curve job weights (start loop .pre .0) (lent₀ loop) (start loop .pre .1) x (lent loop) here
 
-  low-same : length (filled .low) ≡ length (lent₀ loop .low)
-  low-same = step .low-kept .same-length ∙ here .low-kept .same-length
-
-  high-same : length (filled .high) ≡ length (lent₀ loop .high)
-  high-same = step .high-kept .same-length ∙ here .high-kept .same-length
-
-  bound-same : length (filled .bound) ≡ length (lent₀ loop .bound)
-  bound-same = step .bound-kept .same-length ∙ here .bound-kept .same-length
-
-  work-same : length (filled .work) ≡ length (lent₀ loop .work)
-  work-same = step .work-kept .same-length ∙ here .work-kept .same-length
+  kept : RowsKept (x + 1) (job .last + 1) filled (lent₀ loop)
+  kept = step-kept job weights (start loop .pre .0) (lent₀ loop) (start loop .pre .1) x (lent loop) here filled step (x + 1) (le-refl (x + 1))
 
   -- an answer at this total
   fault : (number : ℕ) → eqb number 0 ≡ false → firstOf (faults job weights) ≡ refused number x
@@ -168,21 +159,21 @@ fill-spec =
     add-places
     loop-holds
     fill-total-requires
-    (λ c. low-same (c .before))
-    (λ c. high-same (c .before))
-    (λ c. bound-same (c .before))
-    (λ c. work-same (c .before))
+    (λ c. kept (c .before) .low .same-length)
+    (λ c. kept (c .before) .high .same-length)
+    (λ c. kept (c .before) .bound .same-length)
+    (λ c. kept (c .before) .work .same-length)
     returns
-    (λ c. low-same (c .before .before))
-    (λ c. high-same (c .before .before))
-    (λ c. bound-same (c .before .before))
-    (λ c. work-same (c .before .before))
+    (λ c. kept (c .before .before) .low .same-length)
+    (λ c. kept (c .before .before) .high .same-length)
+    (λ c. kept (c .before .before) .bound .same-length)
+    (λ c. kept (c .before .before) .work .same-length)
     returns-2
     add-x
     loop-less
     loop-again
-    (λ c. c .before .loop .inv .1 .low-kept .same-length)
-    (λ c. c .before .loop .inv .1 .high-kept .same-length)
-    (λ c. c .before .loop .inv .1 .bound-kept .same-length)
-    (λ c. c .before .loop .inv .1 .work-kept .same-length)
+    (λ c. c .before .loop .inv .1 .kept .low .same-length)
+    (λ c. c .before .loop .inv .1 .kept .high .same-length)
+    (λ c. c .before .loop .inv .1 .kept .bound .same-length)
+    (λ c. c .before .loop .inv .1 .kept .work .same-length)
     returns-3)

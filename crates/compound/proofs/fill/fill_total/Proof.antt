@@ -77,16 +77,16 @@ loop-again c =
     )
 
 same-length : tie.Need-same-length Inv-loop μ-loop
-same-length c = c .before .loop .inv .2 .low-kept .same-length
+same-length c = c .before .loop .inv .2 .kept .low .same-length
 
 same-length-2 : tie.Need-same-length-2 Inv-loop μ-loop
-same-length-2 c = c .before .loop .inv .2 .high-kept .same-length
+same-length-2 c = c .before .loop .inv .2 .kept .high .same-length
 
 same-length-3 : tie.Need-same-length-3 Inv-loop μ-loop
-same-length-3 c = c .before .loop .inv .2 .bound-kept .same-length
+same-length-3 c = c .before .loop .inv .2 .kept .bound .same-length
 
 same-length-4 : tie.Need-same-length-4 Inv-loop μ-loop
-same-length-4 c = c .before .loop .inv .2 .work-kept .same-length
+same-length-4 c = c .before .loop .inv .2 .kept .work .same-length
 
 returns : tie.Need-returns Inv-loop μ-loop
 returns c =
