@@ -3,7 +3,7 @@
 use super::CurveAnswer;
 use super::Reason;
 use super::rows::WORK_COLUMNS;
-use enclosure::rule::is_beyond;
+use enclosure::rule::is_either_beyond;
 use model::Job;
 use model::Law;
 use model::Start;
@@ -39,8 +39,7 @@ fn term_limit(order: u64, i: usize) -> i64
 fn is_wrong_term(order: u64, i: usize, a: i64, b: i64) -> bool
     ensures { λ r. ⌜ r ≡ (beyond (termLimit order i) a || beyond (termLimit order i) b) ⌝ }
 {
-    let limit = term_limit(order, i);
-    is_beyond(limit, a) || is_beyond(limit, b)
+    is_either_beyond(term_limit(order, i), a, b)
 }
 
 // The first term that is wrong, from 0, and 4 where none is.

@@ -99,7 +99,6 @@ module _ (sums : Entry) (f : Factor) (x : ℕ) (weights : List ℕ) (row : ℕ �
   factor-room y l =
       let slope = size-mul-le (f .slope) (pos (y + 1)) 1000 500 (h .slope-small) (omega (arith, h .x-small)) in
       record {
-        constant-fits = size-fits w64 (f .constant) (omega (arith, h .constant-small));
         y-fits = omega (arith, h .x-small);
         w-fits = omega (arith, passed y);
         times-y = size-fits w64 (f .slope *ℤ pos (y + 1)) (omega arith);

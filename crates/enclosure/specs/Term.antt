@@ -30,7 +30,6 @@ abbrev pub factorOf : Factor → ℕ → ℕ → ℤ
 factorOf f y w = (f .slope *ℤ pos y +ℤ f .constant) *ℤ pos w
 
 pub record FactorRoom (f : Factor) (y w : ℕ) : Type 0 where
-  pub constant-fits : SFits w64 (f .constant)
   pub y-fits : y < 2 ^ 63
   pub w-fits : w < 2 ^ 63
   pub times-y : SFits w64 (f .slope *ℤ pos y)

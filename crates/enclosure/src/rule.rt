@@ -50,18 +50,26 @@ pub fn divide_sums(sums: Entry, divisor: u64) -> Entry
 }
 
 // Whether `z` lies outside -`limit` to `limit`.
-pub fn is_beyond(limit: i64, z: i64) -> bool
+fn is_beyond(limit: i64, z: i64) -> bool
     requires { ⌜ pos 0 ≤ℤ limit ⌝ }
     ensures { λ r. ⌜ r ≡ beyond (natAbs limit) z ⌝ }
 {
     z < -limit || limit < z
 }
 
+// Whether one of two numbers does.
+pub fn is_either_beyond(limit: i64, y: i64, z: i64) -> bool
+    requires { ⌜ pos 0 ≤ℤ limit ⌝ }
+    ensures { λ r. ⌜ r ≡ (beyond (natAbs limit) y || beyond (natAbs limit) z) ⌝ }
+{
+    is_beyond(limit, y) || is_beyond(limit, z)
+}
+
 // Whether an entry's low or high lies outside -2U to 2U.
 pub fn is_out_of_range(entry: Entry) -> bool
     ensures { λ r. ⌜ r ≡ outOfRange entry ⌝ }
 {
-    is_beyond(2 * UNIT, entry.low) || is_beyond(2 * UNIT, entry.high)
+    is_either_beyond(2 * UNIT, entry.low, entry.high)
 }
 
 // Whether an entry's bound is above U.
