@@ -14,14 +14,10 @@ use Rattle.algebra.specs.Smallest.{smallest}
 use Rattle.algebra.proofs.Smallest.{smallest-finds}
 use Rattle.model.specs.declared.Job.{Job}
 use Rattle.model.specs.Answer.{Condition, accepted, firstOf}
-use Rattle.model.proofs.Answer.{passed}
+use Rattle.model.proofs.Answer.{passed, within}
 use Rattle.enclosure.specs.Entry.{unit, beyond}
-use Rattle.compound.specs.Call.{Lent, outside, termLimit, wrongTerm, shorter, workPlaces, tooShort, checks}
+use Rattle.compound.specs.Call.{Lent, termLimit, wrongTerm, shorter, workPlaces, tooShort, checks}
 use Rattle.compound.specs.Room.{Limits, LongEnough}
-
--- ---- tests
-within : (least most n : ℕ) → outside least most n ≡ false → (least ≤ n) × (n ≤ most)
-within least most n e = (ltb-false n least (or-left (ltb n least) (ltb most n) e), ltb-false most n (or-right (ltb n least) (ltb most n) e))
 
 -- ---- checks 1 to 8
 limit-most : (t : Bool) → cond t 1000 0 ≤ 1000

@@ -12,7 +12,7 @@ use Rattle.exact.specs.Severity.{totalWeight}
 use Rattle.model.specs.declared.Law.{Law}
 use Rattle.model.specs.declared.Start.{Start}
 use Rattle.model.specs.declared.Job.{Job}
-use Rattle.model.specs.Answer.{Answer, Condition, accepted, refused, isAccepted, condition, firstOf}
+use Rattle.model.specs.Answer.{Answer, Condition, accepted, refused, isAccepted, condition, firstOf, outside}
 use Rattle.enclosure.specs.declared.Entry.{Entry}
 use Rattle.compound.specs.declared.Reason.{Reason}
 use Rattle.compound.specs.declared.Reason.the-variants.{Order, Divisor, Term, Start as StartReason, Severities, Weights, Last}
@@ -52,10 +52,6 @@ lentRows low high bound work = record { low = low; high = high; bound = bound; w
 
 -- ---- "1, k; 2, D; 3, a term out of range, or past k and not zero (place: the smallest i); 4, start; 5, m; 6, W; 7, X; 8, a row below X+1
 -- places or the work row below 9 times (X+1)."
--- n is not from least to most
-abbrev pub outside : ℕ → ℕ → ℕ → Bool
-outside least most n = ltb n least || ltb most n
-
 -- "each from -1,000 to 1,000. Terms past k are zero.", of term i + 1
 abbrev pub termLimit : ℕ → ℕ → ℕ
 termLimit order i = cond (ltb i order) 1000 0

@@ -7,6 +7,7 @@ use enclosure::rule::is_either_beyond;
 use model::Job;
 use model::Law;
 use model::Start;
+use model::is_outside;
 ghost use mathlib.Core.Path.{_≡_};
 ghost use mathlib.Core.Bool.{_||_};
 ghost use Prim.Native.Nat.{_+_, _*_, _≤_, min};
@@ -15,19 +16,13 @@ ghost use Rattle.algebra.specs.Smallest.{smallest};
 ghost use Rattle.exact.specs.Severity.{totalWeight};
 ghost use Rattle.model.specs.Answer.{firstOf};
 ghost use Rattle.enclosure.specs.Entry.{beyond};
-ghost use Rattle.compound.specs.Call.{outside, termLimit, wrongTerm, wrongStart, tooShort, paper, checks, lentRows};
+ghost use Rattle.compound.specs.Call.{termLimit, wrongTerm, wrongStart, tooShort, paper, checks, lentRows};
 
 // U, which stands for chance 1.
 const UNIT: u64 = 1_000_000_000;
 
 // The largest sum of weights that is told apart: one more than a table may have.
 const WEIGHT_CAP: u64 = 1001;
-
-fn is_outside(least: u64, most: u64, n: u64) -> bool
-    ensures { λ r. ⌜ r ≡ outside least most n ⌝ }
-{
-    n < least || most < n
-}
 
 // The size that the numbers of term `i` + 1 may have: a term past the order is zero.
 fn term_limit(order: u64, i: usize) -> i64

@@ -1,5 +1,8 @@
 // What a job is made of. The numbers may have any content: the curve call refuses what lies outside the paper's limits.
 
+ghost use mathlib.Core.Path.{_≡_};
+ghost use Rattle.model.specs.Answer.{outside};
+
 // The law of the number of claims: order k, divisor D, and the terms A_1..A_4 and B_1..B_4, of which those past k are zero.
 pub struct Law {
     pub order: u64,
@@ -19,4 +22,10 @@ pub struct Job {
     pub law: Law,
     pub start: Start,
     pub last: u64,
+}
+
+pub fn is_outside(least: u64, most: u64, n: u64) -> bool
+    ensures { λ r. ⌜ r ≡ outside least most n ⌝ }
+{
+    n < least || most < n
 }

@@ -6,9 +6,9 @@ use mathlib.Core.List.{List, []}
 use Prim.Native.Nat.{ℕ}
 use lib.ListN.{drop}
 use Rattle.exact.specs.Severity.{totalWeight}
-use Rattle.model.specs.Answer.{Condition, firstOf}
+use Rattle.model.specs.Answer.{Condition, firstOf, outside}
 use Rattle.model.proofs.Answer.{first-none, first-holds, first-fails}
-use Rattle.compound.specs.Call.{outside, checks}
+use Rattle.compound.specs.Call.{checks}
 use Rattle.compound.proofs.Tests.{capped-outside}
 use Rattle.compound.proofs.check.check.Statement.{statement}
 use Rattle.compound.proofs.check.check.Tie as tie
