@@ -1,7 +1,7 @@
 -- A test that passes at every row passes at any row, by the row's place in the table; tests of equality, by cases on what they compare.
-use mathlib.Core.Path.{refl, sym, ap, subst}
+use mathlib.Core.Path.{_≡_, refl, sym, ap, subst}
 use mathlib.Core.Bool.{Bool, true, false, _&&_}
-use mathlib.Core.List.{[], _∷_, List·Memᴰ·not-nil, List·Memᴰ·cases-cons}
+use mathlib.Core.List.{List, [], _∷_, List·Memᴰ·not-nil, List·Memᴰ·cases-cons}
 use mathlib.Core.Logic.{⊎-elim}
 use lib.Dec.{T, eqb→eq}
 use lib.IntN.{pos, negsuc}
@@ -35,3 +35,8 @@ same-list A same equates (x ∷ xs) [] t = absurd t
 same-list A same equates (x ∷ xs) (y ∷ ys) t =
     λ i. equates x y (and-left (same x y) (sameList same xs ys) t) i
     ∷ same-list A same equates xs ys (and-right (same x y) (sameList same xs ys) t) i
+
+-- a list is the same as itself
+pub same-itself : (A : Type 0) (same : A → A → Bool) → ((x : A) → same x x ≡ true) → (l : List A) → sameList same l l ≡ true
+same-itself A same itself [] = refl
+same-itself A same itself (x ∷ l) = rw (itself x) (same-itself A same itself l)

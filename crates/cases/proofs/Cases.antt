@@ -1,22 +1,28 @@
 -- Every row of the table holds, by one test over the whole table that the checker computes from the definitions.
 use mathlib.Core.Path.{ap}
-use mathlib.Core.Bool.{Bool}
+use mathlib.Core.Bool.{Bool, _&&_}
 use mathlib.Core.List.{List, []}
 use lib.Dec.{T, eqb, eqb→eq}
 use lib.IntN.{ℤ}
-use lib.ListN.{getD}
+use lib.ListN.{length, getD}
 use Prim.Native.Nat.{ℕ}
 use Rattle.algebra.specs.Slice.{listed}
 use Rattle.algebra.specs.Smallest.{smallest}
 use Rattle.algebra.specs.Sum.{accumulate}
-use Rattle.algebra.specs.Table.{Equates, sameInteger}
+use Rattle.algebra.specs.Table.{Equates, sameInteger, sameList}
 use Rattle.algebra.proofs.Table.{and-left, and-right, each-passes, same-integer, same-list}
 use Rattle.outward.specs.Division.{floorDiv, ceilDiv}
 use Rattle.model.specs.Answer.{Answer, refused, firstOf}
 use Rattle.enclosure.specs.Entry.{scaled, rounded}
 use Rattle.compound.specs.Curve.{factor, sumsZero, sumsNext, entryAt, withNext, history, curveRows}
 use Rattle.compound.specs.Call.{Lent, lentRows, firstFault, curveAnswer, rowAfter, curveLent}
-use Rattle.cases.specs.Cases.{Case, curve, Holds, cases, CasesHold, numbers, sameAnswer, sameRow, rows, sameLent, test}
+use Rattle.text.specs.Lines.{before, after, has, afterLines, longer, words}
+use Rattle.text.specs.Numbers.{valueFrom, number}
+use Rattle.sheet.specs.Line.{allNumbers, line}
+use Rattle.sheet.specs.Reading.{weightLines, severityLine, lastLine, startLine, termLines, lawLine, reading}
+use Rattle.sheet.specs.Call.{Told, told, rowOnReturn, firstNoNumber, faultyWord}
+use Rattle.cases.specs.Cases.{Case, curve, reader, Holds, cases, CasesHold, test}
+use Rattle.cases.specs.Cases.{numbers, sameAnswer, sameRow, rows, sameLent, wholeNumbers, terms, sameBytes, sameTold}
 
 same-answer : Equates Answer sameAnswer
 same-answer x y t = ap (λ l. refused (getD l 0 0) (getD l 1 0)) (same-list ℕ eqb eqb→eq (numbers x) (numbers y) t)
@@ -27,6 +33,40 @@ same-row = same-list ℤ sameInteger same-integer
 same-lent : Equates Lent sameLent
 same-lent x y t =
     ap (λ l. lentRows (getD l 0 []) (getD l 1 []) (getD l 2 []) (getD l 3 [])) (same-list (List ℤ) sameRow same-row (rows x) (rows y) t)
+
+same-bytes : Equates (List ℕ) sameBytes
+same-bytes = same-list ℕ eqb eqb→eq
+
+-- what the reader tells, from the lists that are compared
+toldBy : List ℕ → List (List ℤ) → List ℕ → Told
+toldBy numbers terms weights = record {
+  answer = refused (getD numbers 0 0) (getD numbers 1 0);
+  job = record {
+    law = record { order = getD numbers 2 0; divisor = getD numbers 3 0; a = getD terms 0 []; b = getD terms 1 [] };
+    start = record { low = getD numbers 4 0; high = getD numbers 5 0 };
+    last = getD numbers 6 0;
+  };
+  count = getD numbers 7 0;
+  weights = weights;
+}
+
+same-told : Equates Told sameTold
+unfolding toldBy
+same-told x y t =
+    let others = and-right numbers (sameTerms && weights) t in
+    λ i. toldBy
+    (same-bytes (wholeNumbers x) (wholeNumbers y) (and-left numbers (sameTerms && weights) t) i)
+    (same-list (List ℤ) sameRow same-row (terms x) (terms y) (and-left sameTerms weights others) i)
+    (same-bytes (x .weights) (y .weights) (and-right sameTerms weights others) i)
+  where
+    numbers : Bool
+    numbers = sameBytes (wholeNumbers x) (wholeNumbers y)
+
+    sameTerms : Bool
+    sameTerms = sameList sameRow (terms x) (terms y)
+
+    weights : Bool
+    weights = sameBytes (x .weights) (y .weights)
 
 -- a row that passes the test holds
 sound : (c : Case) → T (test c) → Holds c
@@ -40,8 +80,25 @@ sound (curve job weights lent answer after) t = (
 
     returned : Bool
     returned = sameLent (curveLent job weights lent) after
+sound (reader s row says after word) t =
+    let others = and-right tells (returned && handed) t in (
+      same-told (told (reading (length row) s)) says (and-left tells (returned && handed) t),
+      same-bytes (rowOnReturn (reading (length row) s) row) after (and-left returned handed others),
+      same-bytes (faultyWord (length row) s) word (and-right returned handed others),
+    )
+  where
+    tells : Bool
+    tells = sameTold (told (reading (length row) s)) says
+
+    returned : Bool
+    returned = sameBytes (rowOnReturn (reading (length row) s) row) after
+
+    handed : Bool
+    handed = sameBytes (faultyWord (length row) s) word
 
 pub cases-hold : CasesHold
 unfolding curveAnswer curveLent rowAfter firstFault curveRows history withNext entryAt sumsNext sumsZero factor rounded scaled
     firstOf ceilDiv floorDiv accumulate smallest listed
+    reading lawLine termLines startLine lastLine severityLine weightLines line allNumbers firstNoNumber
+    number valueFrom words longer afterLines before after has
 cases-hold c m = sound c (each-passes Case test cases tt c m)

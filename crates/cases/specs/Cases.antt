@@ -1,9 +1,10 @@
--- "Cases on each limit", as rows of one table: P1 to P8, and two more of the paper's curve calls. The numbers are the paper's; what it does
--- not print follows from its rule, and calculator/check_curve_cases.py works every row out apart from these definitions.
+-- "Cases on each limit", as rows of one table: P1 to P8, P11 and P12, and more of the paper's calls. The numbers are the paper's; what it
+-- does not print follows from its rules, and calculator/check_paper_cases.py works every row out apart from these definitions.
 use mathlib.Core.Path.{_≡_}
 use mathlib.Core.Bool.{Bool, _&&_}
 use mathlib.Core.List.{List, [], _∷_, _++_, map, List·Memᴰ}
 use Prim.Native.Nat.{ℕ, _+_, _-_, _*_}
+use Prim.Native.String.{String}
 use lib.Dec.{eqb}
 use lib.IntN.{ℤ, pos, negℤ}
 use lib.ListN.{length, replicate}
@@ -13,15 +14,22 @@ use Rattle.model.specs.declared.Start.{Start}
 use Rattle.model.specs.declared.Job.{Job}
 use Rattle.model.specs.Answer.{Answer, accepted, refused}
 use Rattle.compound.specs.Call.{Lent, lentRows, curveAnswer, curveLent}
+use Rattle.text.specs.Bytes.{ascii}
+use Rattle.sheet.specs.Reading.{reads, refuses, reading}
+use Rattle.sheet.specs.Call.{Told, told, rowOnReturn, faultyWord}
 
 -- a call of the tool and what the paper says of it
 pub data Case : Type 0 where
   -- the job and its weights, the lent rows at entry, the answer, the lent rows on return
   curve : Job → List ℕ → Lent → Answer → Lent → Case
+  -- the sheet's bytes and the lent row at entry, what the reader tells, the row on return, the faulty word
+  reader : List ℕ → List ℕ → Told → List ℕ → List ℕ → Case
 
 -- what a row claims
 abbrev pub Holds : Case → Type 0
 Holds (curve job weights lent answer after) = (curveAnswer job weights lent ≡ answer) × (curveLent job weights lent ≡ after)
+Holds (reader s row says after word) =
+    (told (reading (length row) s) ≡ says) × (rowOnReturn (reading (length row) s) row ≡ after) × (faultyWord (length row) s ≡ word)
 
 -- ---- jobs
 -- terms that are not written are zero
@@ -35,6 +43,9 @@ law k D A B = record { order = k; divisor = D; a = padded A; b = padded B }
 -- s and t
 abbrev start : (s t : ℕ) → Start
 start s t = record { low = s; high = t }
+
+abbrev job : (law : Law) (start : Start) (X : ℕ) → Job
+job law start X = record { law = law; start = start; last = X }
 
 -- ---- lent rows
 -- what every place holds at entry, so that it shows which ones the call writes
@@ -57,9 +68,33 @@ holding low high bound X = lentRows (low ++ marks 2) (high ++ marks 2) (bound ++
 abbrev cleared : (X : ℕ) → Lent
 cleared X = holding (replicate (X + 1) (pos 0)) (replicate (X + 1) (pos 0)) (replicate (X + 1) (pos 0)) X
 
+-- ---- sheets
+-- the paper's sheet, that of P1, with two of its lines left open
+abbrev sheet : (line2 line6 : String) → List ℕ
+sheet line2 line6 =
+    ascii "LAW 1 1\n" ++ ascii line2 ++ ascii "\nSTART 367879441 367879442\nLAST 3\nSEVERITY 2\n" ++ ascii line6 ++ ascii "\nW 1\n"
+
+-- the lent row has one place more than the sheet has weights
+abbrev places : List ℕ
+places = 7 ∷ 7 ∷ 7 ∷ []
+
+-- "An acceptance writes the first m places and no others.", and hands back an empty part
+abbrev acceptance : (s : List ℕ) (job : Job) (weights after : List ℕ) → Case
+acceptance s job weights after = reader s places (told (reads (record { job = job; weights = weights }))) after []
+
+-- "A refusal writes nothing.", and its other numbers are 0
+abbrev refusal : (s : List ℕ) (number line : ℕ) (word : String) → Case
+refusal s number line word = reader s places (told (refuses number line)) places (ascii word)
+
 -- ---- the table of cases
+abbrev call : (job : Job) (weights : List ℕ) (answer : Answer) (after : ℕ → Lent) → Case
+call job weights answer after = curve job weights (lentFor (job .last)) answer (after (job .last))
+
 abbrev row : (law : Law) (start : Start) (X : ℕ) (weights : List ℕ) (answer : Answer) (after : ℕ → Lent) → Case
-row law start X weights answer after = curve (record { law = law; start = start; last = X }) weights (lentFor X) answer (after X)
+row law start X = call (job law start X)
+
+abbrev jobP1 : Job
+jobP1 = job (law 1 1 (pos 0 ∷ []) (pos 1 ∷ [])) (start 367879441 367879442) 3
 
 -- P1, as the program writes it
 abbrev rowsP1 : (X : ℕ) → Lent
@@ -85,7 +120,7 @@ rowsP2 = holding
 abbrev pub cases : List Case
 cases =
     -- P1: "the job above", that of the sheet
-    row (law 1 1 (pos 0 ∷ []) (pos 1 ∷ [])) (start 367879441 367879442) 3 (1 ∷ 1 ∷ []) accepted rowsP1
+    call jobP1 (1 ∷ 1 ∷ []) accepted rowsP1
     -- P2: "X 4"
     ∷ row lawP2 startP2 4 (1 ∷ []) accepted rowsP2
     -- P3: "At 1: low -1, high 0, bound 2."
@@ -114,6 +149,16 @@ cases =
     ∷ row lawP2 startP2 501 (1 ∷ []) (refused 7 0) untouched
     -- "k 5 gives 1 at the curve"
     ∷ row (law 5 1 (negℤ (pos 1) ∷ []) (pos 3 ∷ [])) startP2 4 (1 ∷ []) (refused 1 0) untouched
+    -- P1's sheet holds P1's job
+    ∷ acceptance (sheet "TERM 0 1" "W 1") jobP1 (1 ∷ 1 ∷ []) (1 ∷ 1 ∷ 7 ∷ [])
+    -- P11: "the sheet above with `W 10n5` as its line 6 gives 24 at line 6 with the word `10n5`"
+    ∷ refusal (sheet "TERM 0 1" "W 10n5") 24 6 "10n5"
+    -- P12: "with `TERM -0 1` as its line 2 it gives 24 at line 2 with the word `-0`"
+    ∷ refusal (sheet "TERM -0 1" "W 1") 24 2 "-0"
+    -- "`W  1` gives 23"
+    ∷ refusal (sheet "TERM 0 1" "W  1") 23 6 ""
+    -- "bytes after the last `W` line give 26"
+    ∷ refusal (sheet "TERM 0 1" "W 1\nW 1") 26 8 ""
     ∷ []
 
 -- the one claim
@@ -136,6 +181,25 @@ rows lent = lent .low ∷ lent .high ∷ lent .bound ∷ lent .work ∷ []
 abbrev pub sameLent : Lent → Lent → Bool
 sameLent x y = sameList sameRow (rows x) (rows y)
 
+-- what the reader tells, as lists
+abbrev pub wholeNumbers : Told → List ℕ
+wholeNumbers x =
+    x .answer .number ∷ x .answer .place ∷ x .job .law .order ∷ x .job .law .divisor ∷ x .job .start .low ∷ x .job .start .high
+    ∷ x .job .last ∷ x .count ∷ []
+
+abbrev pub terms : Told → List (List ℤ)
+terms x = x .job .law .a ∷ x .job .law .b ∷ []
+
+abbrev pub sameBytes : List ℕ → List ℕ → Bool
+sameBytes = sameList eqb
+
+abbrev pub sameTold : Told → Told → Bool
+sameTold x y =
+    sameBytes (wholeNumbers x) (wholeNumbers y) && (sameList sameRow (terms x) (terms y) && sameBytes (x .weights) (y .weights))
+
 abbrev pub test : Case → Bool
 test (curve job weights lent answer after) =
     sameAnswer (curveAnswer job weights lent) answer && sameLent (curveLent job weights lent) after
+test (reader s row says after word) =
+    sameTold (told (reading (length row) s)) says
+    && (sameBytes (rowOnReturn (reading (length row) s) row) after && sameBytes (faultyWord (length row) s) word)

@@ -4,7 +4,7 @@ use mathlib.Core.Bool.{Bool, true, false, cond}
 use mathlib.Core.List.{List, [], _∷_, _++_}
 use Prim.Native.Nat.{ℕ, suc, _≤_}
 use native.Mathlib.Nat as NL
-use borrow.Author.Tests.{ne-eqb, ltb-false}
+use borrow.Author.Tests.{ne-eqb, le-ltb, ltb-false}
 use lib.Dec.{T, ltb, eqb, ltb→lt}
 use Rattle.algebra.proofs.Or.{or-left, or-right}
 use Rattle.algebra.specs.Table.{every}
@@ -62,5 +62,8 @@ first-passed cs ds t e = by (isAccepted (firstOf cs)) refl (sym (first-append cs
     by false p q = ap isAccepted q
 
 -- a number that is not outside
+pub inside : (least most n : ℕ) → least ≤ n → n ≤ most → outside least most n ≡ false
+inside least most n h k = rw (le-ltb n least h, le-ltb most n k)
+
 pub within : (least most n : ℕ) → outside least most n ≡ false → (least ≤ n) × (n ≤ most)
 within least most n e = (ltb-false n least (or-left (ltb n least) (ltb most n) e), ltb-false most n (or-right (ltb n least) (ltb most n) e))

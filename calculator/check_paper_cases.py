@@ -1,5 +1,5 @@
-"""Sets the curve calls in crates/cases/specs/Cases.antt beside those of outward.py, and their lows and highs beside the exact amounts of
-exact.py. Every row must be known here, and agree."""
+"""Sets the calls in crates/cases/specs/Cases.antt beside outward.py and sheet.py, and the lows and highs of curves beside the exact amounts
+of exact.py. Every row must be known here, and agree."""
 import pathlib
 import re
 import sys
@@ -8,14 +8,26 @@ from typing import NamedTuple
 
 import exact
 from outward import Job, Lent, curve
+from sheet import NO_JOB, read_sheet
 
 MARK = 7
 
 
-class Row(NamedTuple):
+class Curve(NamedTuple):
+    """A row on the curve call."""
     job: Job
     answer: tuple
     after: Lent
+
+
+class Sheet(NamedTuple):
+    """A row on the sheet reader."""
+    sheet: bytes
+    places: list
+    answer: tuple
+    job: Job
+    after: list
+    word: bytes
 
 
 def law(k, D, A, B):
@@ -34,6 +46,25 @@ def cleared(X):
     return holding(*([0] * (X + 1) for _ in range(3)))(X)
 
 
+def call(job, weights, answer, after):
+    law, start, X = job
+    return Curve(Job(*law, *start, weights, X), answer, after(X))
+
+
+def sheet(line2, line6):
+    """The paper's sheet with another line 2 and line 6."""
+    return f"LAW 1 1\n{line2}\nSTART 367879441 367879442\nLAST 3\nSEVERITY 2\n{line6}\nW 1\n".encode()
+
+
+def acceptance(read, job, weights, after):
+    law, start, X = job
+    return Sheet(read, [MARK] * 3, (0, 0), Job(*law, *start, weights, X), after, b"")
+
+
+def refusal(read, number, line, word):
+    return Sheet(read, [MARK] * 3, (number, line), NO_JOB, [MARK] * 3, word.encode())
+
+
 # the words of the table, besides the names that the file defines without parameters
 WORDS = {
     "pos": lambda n: n,
@@ -46,7 +77,12 @@ WORDS = {
     "untouched": lent_for,
     "holding": holding,
     "cleared": cleared,
-    "row": lambda law, start, X, weights, answer, after: Row(Job(*law, *start, weights, X), answer, after(X)),
+    "job": lambda law, start, X: (law, start, X),
+    "call": call,
+    "row": lambda law, start, X, weights, answer, after: call((law, start, X), weights, answer, after),
+    "sheet": sheet,
+    "acceptance": acceptance,
+    "refusal": refusal,
 }
 
 
@@ -54,7 +90,7 @@ def definitions(text):
     """The tokens of each definition without parameters."""
     text = re.sub(r"^ *--.*\n", "", text, flags=re.MULTILINE)
     found = re.findall(r"^(\w+) =(.*\n(?:    .*\n)*)", text, flags=re.MULTILINE)
-    return {name: re.findall(r"[()]|\w+|[^\s\w()]+", body) for name, body in found}
+    return {name: re.findall(r'"[^"]*"|[()]|\w+|[^\s\w()"]+', body) for name, body in found}
 
 
 def read(tokens, defined):
@@ -69,6 +105,8 @@ def read(tokens, defined):
             parts.append([])
         elif token.isdigit():
             parts.append(int(token))
+        elif token.startswith('"'):
+            parts.append(token[1:-1].replace("\\n", "\n"))
         else:
             parts.append(WORDS[token] if token in WORDS else read(list(defined[token]), defined))
     head, *arguments = parts
@@ -88,7 +126,7 @@ def table():
         sys.exit(f"a row cannot be read: {source}: {error!r}")
 
 
-def differences(row):
+def curve_differences(row):
     lent = lent_for(row.job.last)
     answer = curve(row.job, lent)
     if answer != row.answer:
@@ -97,6 +135,14 @@ def differences(row):
         stated, found = getattr(row.after, name), getattr(lent, name)
         if stated != found:
             yield f"{name}: the table has {stated}, the calculator {found}"
+
+
+def sheet_differences(row):
+    found = read_sheet(row.sheet, len(row.places))
+    weights = found.job.weights
+    told = (found.number, found.line), found.job, weights + row.places[len(weights):], found.word
+    if told != (row.answer, row.job, row.after, row.word):
+        yield f"the table has {row}, the calculator {told}"
 
 
 def outside(row):
@@ -115,16 +161,22 @@ def outside(row):
                 yield f"at {x}: the exact amount {amount} for the start {start} is not from {low} to {high}"
 
 
+def differences(row):
+    if isinstance(row, Sheet):
+        return list(sheet_differences(row))
+    return list(curve_differences(row)) or list(outside(row))
+
+
 def main():
     rows = table()
     wrong = 0
     for number, row in enumerate(rows, 1):
-        faults = list(differences(row)) or list(outside(row))
+        faults = differences(row)
         wrong += bool(faults)
         for fault in faults:
             print(f"row {number}: {fault}")
-    accepted = sum(row.answer == (0, 0) for row in rows)
-    print(f"curve calls: {len(rows)} rows set beside the calculator, {accepted} of them with exact amounts, {wrong} differ")
+    accepted = sum(isinstance(row, Curve) and row.answer == (0, 0) for row in rows)
+    print(f"the paper's cases: {len(rows)} rows set beside the calculator, {accepted} of them with exact amounts, {wrong} differ")
     if wrong or len(rows) < 10:
         sys.exit(1)
 

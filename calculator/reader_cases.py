@@ -1,0 +1,211 @@
+"""The sheets that the program crates/reader_cases has the reader read, and what sheet.py says to each. Checks that the program's files
+stdin and stdout hold just this; with --write it writes them first."""
+import pathlib
+import sys
+from typing import NamedTuple
+
+from sheet import read_sheet
+
+FOLDER = pathlib.Path(__file__).parent.parent / "crates/reader_cases"
+
+PAPER = [b"LAW 1 1", b"TERM 0 1", b"START 367879441 367879442", b"LAST 3", b"SEVERITY 2", b"W 1", b"W 1"]
+
+
+class Case(NamedTuple):
+    """What is tried, the number and line that the paper asks for, the sheet, and the row's number of places."""
+    name: str
+    number: int
+    line: int
+    sheet: bytes
+    places: int = 4
+
+
+def text(lines, end=b"\n"):
+    return b"".join(line + end for line in lines)
+
+
+GOOD = text(PAPER)
+
+
+def paper(changed):
+    """The paper's sheet with some of its lines changed, by their numbers."""
+    return text(changed.get(number, line) for number, line in enumerate(PAPER, 1))
+
+
+def last(line):
+    """The paper's sheet with another last line."""
+    return paper({7: line})
+
+
+def terms(*lines):
+    """A sheet of one weight whose order is the number of terms."""
+    return text([b"LAW %d 7" % len(lines), *lines, b"START 0 5", b"LAST 2", b"SEVERITY 1", b"W 3"])
+
+
+def weights(count, stated):
+    """A sheet of ten-digit numbers with so many weights, no two alike, and the number of them that SEVERITY states."""
+    front = [b"LAW 4 9999999999", *[b"TERM 9999999999 -9999999999", b"TERM -9999999999 9999999999"] * 2,
+             b"START 9999999998 9999999999", b"LAST 9999999997", b"SEVERITY %d" % stated]
+    return text(front + [b"W %d" % (9999999498 + y) for y in range(1, count + 1)])
+
+
+def padded(size):
+    """The paper's sheet and more bytes."""
+    return GOOD.ljust(size, b"1")
+
+
+CASES = [
+    # the paper's own
+    Case("the paper's sheet", 0, 0, GOOD, 2),
+    Case("P11", 24, 6, paper({6: b"W 10n5"})),
+    Case("P12", 24, 2, paper({2: b"TERM -0 1"})),
+    Case("two spaces", 23, 6, paper({6: b"W  1"})),
+    Case("a space at the end of START", 24, 3, paper({3: b"START 1 "})),
+    Case("bytes after the last line, with a line end", 26, 8, GOOD + b"W 1\n"),
+    Case("bytes after the last line, with no line end", 26, 8, GOOD + b"x"),
+    Case("k 5", 25, 1, paper({1: b"LAW 5 1"})),
+
+    # good sheets
+    Case("order 2", 0, 0, terms(b"TERM 1 -2", b"TERM -3 4")),
+    Case("order 3", 0, 0, terms(b"TERM 1 2", b"TERM 3 0", b"TERM -5 -6"), 1),
+    Case("order 4", 0, 0, terms(b"TERM 0 0", b"TERM -1 0", b"TERM 0 -1", b"TERM 1000 -1000")),
+    Case("D, s, t and X below the job's limits", 0, 0, paper({1: b"LAW 1 0", 3: b"START 0 0", 4: b"LAST 0"})),
+    Case("D, s, t and X above the job's limits", 0, 0, paper({1: b"LAW 1 1001", 3: b"START 1000000002 1000000001", 4: b"LAST 501"})),
+    Case("terms outside the job's limits", 0, 0, paper({2: b"TERM -1001 1001"})),
+    Case("weights whose sum is 0", 0, 0, paper({6: b"W 0", 7: b"W 0"})),
+    Case("500 weights, and numbers of ten digits", 0, 0, weights(500, 500), 500),
+    Case("500 weights, more places", 0, 0, weights(500, 500), 512),
+
+    # 21
+    Case("no bytes", 21, 0, b""),
+    Case("16,385 bytes", 21, 0, padded(16385)),
+    Case("16,384 bytes", 26, 8, padded(16384)),
+    Case("16,384 bytes with no line end", 22, 1, b"LAW 1 1".ljust(16384, b"1")),
+
+    # 22
+    Case("no last line end", 22, 7, GOOD[:-1]),
+    Case("no last line", 22, 7, text(PAPER[:-1])),
+    Case("no line after LAST", 22, 5, text(PAPER[:4])),
+    Case("no line end, and a word that is no number", 22, 6, text(PAPER[:5]) + b"W x"),
+    Case("no line end, and a wrong keyword", 22, 2, b"LAW 1 1\nTERMS 0 1"),
+    Case("no line end, and k 5", 22, 1, b"LAW 5 1"),
+    Case("0D as line end", 22, 1, text(PAPER, b"\r")),
+
+    # 23
+    Case("a line end alone", 23, 1, b"\n"),
+    Case("an empty line", 23, 4, text(PAPER[:3] + [b""] + PAPER[3:])),
+    Case("LAW doubled", 23, 2, text(PAPER[:1] + PAPER)),
+    Case("TERM doubled", 23, 3, text(PAPER[:2] + PAPER[1:])),
+    Case("no TERM", 23, 2, text(PAPER[:1] + PAPER[2:])),
+    Case("no START", 23, 3, text(PAPER[:2] + PAPER[3:])),
+    Case("no SEVERITY", 23, 5, text(PAPER[:4] + PAPER[5:])),
+    Case("small letters", 23, 1, paper({1: b"law 1 1"})),
+    Case("a longer keyword", 23, 1, paper({1: b"LAWS 1 1"})),
+    Case("a shorter keyword", 23, 5, paper({5: b"SEVERIT 2"})),
+    Case("a space before the keyword", 23, 1, paper({1: b" LAW 1 1"})),
+    Case("no keyword", 23, 6, paper({6: b" 1"})),
+    Case("a keyword alone", 23, 4, paper({4: b"LAST"})),
+    Case("a space at the end of a whole line", 23, 2, paper({2: b"TERM 0 1 "})),
+    Case("a word too many, and one that is no number", 23, 6, paper({6: b"W x 1"})),
+    Case("a word too few, and one that is no number", 23, 1, paper({1: b"LAW x"})),
+    Case("a tab between words", 23, 6, paper({6: b"W\t1"})),
+    Case("the mark of UTF-8 in front", 23, 1, b"\xef\xbb\xbf" + GOOD),
+
+    # 24
+    Case("0D before the line end", 24, 1, text(PAPER, b"\r\n")),
+    Case("a space at the end of LAST", 24, 4, paper({4: b"LAST "})),
+    Case("a tab after a number", 24, 7, last(b"W 1\t")),
+    Case("a plus sign", 24, 2, paper({2: b"TERM +1 1"})),
+    Case("two zeros", 24, 7, last(b"W 00")),
+    Case("a leading zero", 24, 1, paper({1: b"LAW 1 01"})),
+    Case("a minus sign before two zeros", 24, 2, paper({2: b"TERM -00 1"})),
+    Case("a minus sign before a leading zero, after a negative number", 24, 2, paper({2: b"TERM -1 -01"})),
+    Case("two minus signs", 24, 2, paper({2: b"TERM --1 1"})),
+    Case("a minus sign alone", 24, 2, paper({2: b"TERM 1 -"})),
+    Case("a minus sign in LAW", 24, 1, paper({1: b"LAW -1 1"})),
+    Case("a minus sign in START", 24, 3, paper({3: b"START 1 -1"})),
+    Case("a minus sign in LAST", 24, 4, paper({4: b"LAST -3"})),
+    Case("a minus sign in SEVERITY", 24, 5, paper({5: b"SEVERITY -2"})),
+    Case("a minus sign in W", 24, 7, last(b"W -1")),
+    Case("11 digits", 24, 7, last(b"W 10000000000")),
+    Case("11 digits after a minus sign", 24, 2, paper({2: b"TERM -10000000000 1"})),
+    Case("11 digits for k", 24, 1, paper({1: b"LAW 10000000000 1"})),
+    Case("100 digits", 24, 7, last(b"W " + b"9" * 100)),
+    Case("two faulty words", 24, 2, paper({2: b"TERM 0x -0"})),
+    Case("k 5 and a faulty D", 24, 1, paper({1: b"LAW 5 x"})),
+    Case("the byte before the digits", 24, 7, last(b"W 1/")),
+    Case("the byte after the digits", 24, 7, last(b"W :")),
+    Case("a hexadecimal digit", 24, 7, last(b"W a")),
+    Case("a low line between digits", 24, 7, last(b"W 1_0")),
+    Case("byte 00", 24, 7, last(b"W 1\x00")),
+    Case("byte FF", 24, 2, paper({2: b"TERM \xff 1"})),
+    Case("a full-width digit", 24, 7, last("W \uff11".encode())),
+    Case("another script's digit", 24, 7, last("W \u0661".encode())),
+
+    # 25
+    Case("k 0", 25, 1, paper({1: b"LAW 0 1"})),
+    Case("k of ten digits", 25, 1, paper({1: b"LAW 4294967297 1"})),
+    Case("m 0", 25, 5, text(PAPER[:4] + [b"SEVERITY 0"])),
+    Case("m 501", 25, 8, weights(501, 501), 512),
+    Case("m 501 and no places", 25, 5, paper({5: b"SEVERITY 501"}), 0),
+    Case("m of ten digits", 25, 5, paper({5: b"SEVERITY 4294967298"})),
+
+    # 26
+    Case("a line end after the last line", 26, 8, GOOD + b"\n"),
+    Case("byte 00 after the last line", 26, 8, GOOD + b"\x00"),
+    Case("a weight more than m", 26, 509, weights(501, 500), 500),
+
+    # 27
+    Case("a place less than m", 27, 5, GOOD, 1),
+    Case("no places", 27, 5, GOOD, 0),
+    Case("499 places for 500 weights", 27, 8, weights(500, 500), 499),
+    Case("a place less than m, and a faulty weight", 27, 5, paper({6: b"W x"}), 1),
+]
+
+
+def record(case):
+    """A case as the program reads it."""
+    return case.places.to_bytes(2, "little") + len(case.sheet).to_bytes(2, "little") + case.sheet
+
+
+def answer(case):
+    """The line that the program is to write."""
+    read = read_sheet(case.sheet, case.places)
+    job = read.job
+    numbers = [job.order, job.divisor, *job.a, *job.b, job.low_start, job.high_start, job.last, len(job.weights)]
+    parts = [[read.number, read.line], numbers, [f"{y}={w}" for y, w in enumerate(job.weights, 1)], [f"{byte:02x}" for byte in read.word]]
+    return ";".join("".join(f" {item}" for item in part) for part in parts)[1:].encode() + b"\n"
+
+
+def stored(name):
+    path = FOLDER / name
+    return path.read_bytes() if path.exists() else b""
+
+
+def differences(case, line):
+    """Where the case's own answer or the stored line is not the calculator's."""
+    read = read_sheet(case.sheet, case.places)
+    if (read.number, read.line) != (case.number, case.line):
+        yield f"the case asks for {case.number} at {case.line}, the calculator says {read.number} at {read.line}"
+    if line != answer(case):
+        yield f"stdout has {line!r:.200}, the calculator {answer(case)!r:.200}"
+
+
+def main():
+    records = b"".join(map(record, CASES))
+    if sys.argv[1:] == ["--write"]:
+        (FOLDER / "stdin").write_bytes(records)
+        (FOLDER / "stdout").write_bytes(b"".join(map(answer, CASES)))
+    lines = stored("stdout").splitlines(keepends=True)
+    faults = [f"{case.name}: {fault}" for case, line in zip(CASES, lines) for fault in differences(case, line)]
+    if stored("stdin") != records:
+        faults.append("stdin does not hold the cases' sheets")
+    if len(lines) != len(CASES):
+        faults.append(f"stdout has {len(lines)} lines for {len(CASES)} cases")
+    print(*faults, f"sheets: {len(CASES)} set beside the calculator, {len(faults)} faults", sep="\n")
+    if faults:
+        sys.exit(1)
+
+
+if __name__ == "__main__":
+    main()

@@ -1,0 +1,85 @@
+"""The sheet reader, read from the paper alone: a sheet is cut at its line ends and its spaces, and each word is held to a pattern."""
+import re
+from dataclasses import dataclass
+
+from outward import Job
+
+MOST_BYTES = 16384
+UNSIGNED = re.compile(rb"0|[1-9][0-9]{0,9}")
+SIGNED = re.compile(rb"0|-?[1-9][0-9]{0,9}")
+NO_JOB = Job(0, 0, [0] * 4, [0] * 4, 0, 0, [], 0)
+
+
+@dataclass
+class Reading:
+    """What the call says: number 0 for an acceptance, the line, the job (zeros and no weights after a refusal) and the faulty word."""
+    number: int
+    line: int
+    job: Job
+    word: bytes
+
+
+class Refused(Exception):
+    """A refusal by its number and line, and with 24 the faulty word."""
+
+    def __init__(self, number, line, word=b""):
+        super().__init__(number, line, word)
+        self.number, self.line, self.word = number, line, word
+
+
+class Lines:
+    """The lines of a sheet, taken in order; `taken` is the number of the last one taken."""
+
+    def __init__(self, sheet):
+        *self.ended, self.rest = sheet.split(b"\n")
+        self.taken = 0
+
+    def numbers(self, keyword, count, pattern=UNSIGNED):
+        """The numbers of the line due: refusals 22, 23 and 24."""
+        self.taken += 1
+        if self.taken > len(self.ended):
+            raise Refused(22, self.taken)
+        first, *words = self.ended[self.taken - 1].split(b" ")
+        if first != keyword or len(words) != count:
+            raise Refused(23, self.taken)
+        for word in words:
+            if not pattern.fullmatch(word):
+                raise Refused(24, self.taken, word)
+        return [int(word) for word in words]
+
+    def limit(self, number, least, most):
+        """Refusal 25, for a number of the line taken last."""
+        if not least <= number <= most:
+            raise Refused(25, self.taken)
+
+    def finish(self):
+        """Refusal 26."""
+        if self.taken < len(self.ended) or self.rest:
+            raise Refused(26, self.taken + 1)
+
+
+def read_job(sheet, places):
+    """The job of a sheet that is read for a row of so many places."""
+    if not 1 <= len(sheet) <= MOST_BYTES:
+        raise Refused(21, 0)
+    lines = Lines(sheet)
+    order, divisor = lines.numbers(b"LAW", 2)
+    lines.limit(order, 1, 4)
+    terms = [lines.numbers(b"TERM", 2, SIGNED) for _ in range(order)] + [[0, 0]] * (4 - order)
+    low, high = lines.numbers(b"START", 2)
+    last, = lines.numbers(b"LAST", 1)
+    count, = lines.numbers(b"SEVERITY", 1)
+    lines.limit(count, 1, 500)
+    if places < count:
+        raise Refused(27, lines.taken)
+    weights = [lines.numbers(b"W", 1)[0] for _ in range(count)]
+    lines.finish()
+    return Job(order, divisor, [a for a, _ in terms], [b for _, b in terms], low, high, weights, last)
+
+
+def read_sheet(sheet, places):
+    """The call, with the part that the faulty word's own call gives."""
+    try:
+        return Reading(0, 0, read_job(sheet, places), b"")
+    except Refused as refusal:
+        return Reading(refusal.number, refusal.line, NO_JOB, refusal.word)

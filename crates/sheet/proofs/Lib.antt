@@ -1,0 +1,7 @@
+-- Bottom up: what a file cites stands above it.
+pub mod Parted
+pub mod LineParsed
+pub mod Taken
+pub mod LinePrinted
+pub mod Texts
+pub mod Steps

@@ -1,0 +1,261 @@
+-- The reader goes line by line, and one fact goes with it: the bytes so far are the text of what was read of them. At the end that is the
+-- whole sheet; at a refusal it says at which line of the sheet the reader stands.
+use mathlib.Core.Path.{_≡_, refl, sym, ap, subst, subst₂, _∙_}
+use mathlib.Core.Bool.{Bool, true, false, cond}
+use mathlib.Core.List.{List, [], _∷_, _++_, append-assoc, append-nil}
+use Prim.Native.Nat.{ℕ, zero, suc, _+_, _-_, _≤_, _<_}
+use native.Mathlib.Decide.{ℕ-discrete}
+use native.Mathlib.Numerals.{add-one}
+use native.Mathlib.Omega.{arith}
+use borrow.Author.Tests.{ltb-false}
+use lib.Dec.{eqb, ltb, lit<}
+use lib.IntN.{ℤ, pos}
+use lib.ListN.{length, getD, set, replicate, length-append, length-set}
+use lib.Seq.{getD-set-same, getD-set-other}
+use Rattle.algebra.specs.Table.{sameList}
+use Rattle.model.specs.declared.Law.{Law}
+use Rattle.model.specs.declared.Start.{Start}
+use Rattle.model.specs.declared.Job.{Job}
+use Rattle.model.specs.Answer.{outside}
+use Rattle.model.proofs.Answer.{within}
+use Rattle.text.specs.Bytes.{lineEnd}
+use Rattle.text.specs.Lines.{after, afterLines, lineAt}
+use Rattle.text.specs.Numbers.{TenDigits}
+use Rattle.sheet.specs.Sheet.{LAW, TERM, START, LAST, SEVERITY, W, lineText, termsText, weightsText, sheetText}
+use Rattle.sheet.specs.Line.{Line, numbers, faulty, line}
+use Rattle.sheet.specs.Reading.{Reading, reads, refuses, on, signed, whole, noTerms, withTerm, startOf, jobOf, sheetOf}
+use Rattle.sheet.specs.Reading.{weightLines, severityLine, lastLine, startLine, termLines, lawLine, reading}
+use Rattle.sheet.specs.Call.{numberWords, signsOn, faultOn}
+use Rattle.sheet.specs.Accepts.{Terms, Writable, FirstFaulty, TakesOnlyTexts, HandsBackFirstFaulty}
+use Rattle.sheet.proofs.LineParsed.{Parsed, LineFacts, line-facts, pair, one-whole, two-whole}
+
+-- ---- what is read, and its text
+-- a law whose first i terms are read
+record LawFits (law : Law) (i : ℕ) : Type 0 where
+  order-least : 1 ≤ law .order
+  order-most : law .order ≤ 4
+  divisor : TenDigits (pos (law .divisor))
+  a : Terms i (law .a)
+  b : Terms i (law .b)
+
+record JobFits (job : Job) : Type 0 where
+  law : LawFits (job .law) (job .law .order)
+  low : TenDigits (pos (job .start .low))
+  high : TenDigits (pos (job .start .high))
+  last : TenDigits (pos (job .last))
+
+writable : (job : Job) (ws : List ℕ) → JobFits job → 1 ≤ length ws → length ws ≤ 500 → ((i : ℕ) → TenDigits (pos (getD ws i 0)))
+    → Writable (sheetOf job ws)
+writable job ws fits least most small = record {
+  order-least = fits .law .order-least;
+  order-most = fits .law .order-most;
+  divisor = fits .law .divisor;
+  a = fits .law .a;
+  b = fits .law .b;
+  low = fits .low;
+  high = fits .high;
+  last = fits .last;
+  count-least = least;
+  count-most = most;
+  weights = small;
+}
+
+abbrev lawText : Law → ℕ → List ℕ
+lawText law i = lineText LAW (pos (law .order) ∷ pos (law .divisor) ∷ []) ++ termsText law 0 i
+
+abbrev startText : Law → Start → List ℕ
+startText law start = lawText law (law .order) ++ lineText START (pos (start .low) ∷ pos (start .high) ∷ [])
+
+abbrev jobText : Job → List ℕ
+jobText job = startText (job .law) (job .start) ++ lineText LAST (pos (job .last) ∷ [])
+
+-- there are to be m weights, and the weights ws are read
+abbrev tableText : Job → ℕ → List ℕ → List ℕ
+tableText job m ws = (jobText job ++ lineText SEVERITY (pos m ∷ [])) ++ weightsText ws
+
+all-text : (job : Job) (ws : List ℕ) → tableText job (length ws) ws ≡ sheetText (sheetOf job ws)
+unfolding sheetText
+all-text job ws = simp append-assoc
+
+-- ---- one term more
+zeros : (n i : ℕ) → getD (replicate n (pos 0)) i (pos 0) ≡ pos 0
+zeros zero i = refl
+zeros (suc n) zero = refl
+zeros (suc n) (suc i) = zeros n i
+
+no-terms : Terms 0 (replicate 4 (pos 0))
+no-terms = record { four = refl; past = λ i _. zeros 4 i; small = λ i. rw (zeros 4 i) (lit< tt) }
+
+term-next : (i : ℕ) (terms : List ℤ) (z : ℤ) → i < 4 → TenDigits z → Terms i terms → Terms (i + 1) (set terms i z)
+term-next i terms z h small t = record {
+  four = length-set terms i z ∙ t .four;
+  past = λ j l. getD-set-other terms i j z (pos 0) (omega arith) ∙ t .past j (omega arith);
+  small = λ j. by j (ℕ-discrete j i);
+}
+  where
+    by : (j : ℕ) → Dec (j ≡ i) → TenDigits (getD (set terms i z) j (pos 0))
+    by j (yes e) = rw (e, getD-set-same terms i z (pos 0) (omega (arith, t .four))) small
+    by j (no d) = rw (getD-set-other terms i j z (pos 0) d) (t .small j)
+
+module _ (law : Law) (i : ℕ) (x y : ℤ) (fits : LawFits law i) (h : i < 4) where
+  law-next : TenDigits x → TenDigits y → LawFits (withTerm law i x y) (i + 1)
+  law-next x-small y-small = record {
+    order-least = fits .order-least;
+    order-most = fits .order-most;
+    divisor = fits .divisor;
+    a = term-next i (law .a) x h x-small (fits .a);
+    b = term-next i (law .b) y h y-small (fits .b);
+  }
+
+  -- the terms before it are those that they were
+  terms-next : (j due : ℕ) → j + due ≡ i
+      → termsText (withTerm law i x y) j (suc due) ≡ termsText law j due ++ lineText TERM (x ∷ y ∷ [])
+  unfolding termsText
+  terms-next j zero e =
+      let here : j ≡ i = omega arith in
+      rw (here, getD-set-same (law .a) i x (pos 0) (omega (arith, fits .a .four)), append-nil)
+      (rw (getD-set-same (law .b) i y (pos 0) (omega (arith, fits .b .four))))
+  terms-next j (suc due) e =
+      let earlier = lineText TERM (getD (law .a) j (pos 0) ∷ getD (law .b) j (pos 0) ∷ []) in
+      rw (getD-set-other (law .a) i j x (pos 0) (omega arith), getD-set-other (law .b) i j y (pos 0) (omega arith))
+      (ap (λ (l : List ℕ). earlier ++ l) (terms-next (suc j) due (omega arith))
+      ∙ sym (append-assoc earlier (termsText law (suc j) due) (lineText TERM (x ∷ y ∷ []))))
+
+  law-text : lawText law i ++ lineText TERM (x ∷ y ∷ []) ≡ lawText (withTerm law i x y) (i + 1)
+  law-text = rw (append-assoc, add-one i, terms-next 0 i (omega arith))
+
+-- ---- one weight more
+weights-next : (ws : List ℕ) (w : ℕ) → weightsText (ws ++ (w ∷ [])) ≡ weightsText ws ++ lineText W (pos w ∷ [])
+unfolding weightsText
+weights-next [] w = append-nil (lineText W (pos w ∷ []))
+weights-next (v ∷ ws) w =
+    ap (λ (l : List ℕ). lineText W (pos v ∷ []) ++ l) (weights-next ws w)
+    ∙ sym (append-assoc (lineText W (pos v ∷ [])) (weightsText ws) (lineText W (pos w ∷ [])))
+
+table-text : (job : Job) (m : ℕ) (ws : List ℕ) (w : ℕ) → tableText job m ws ++ lineText W (pos w ∷ []) ≡ tableText job m (ws ++ (w ∷ []))
+table-text job m ws w = rw (append-assoc (jobText job ++ lineText SEVERITY (pos m ∷ [])), weights-next ws w)
+
+weight-small : (ws : List ℕ) (w : ℕ) → TenDigits (pos w) → ((i : ℕ) → TenDigits (pos (getD ws i 0)))
+    → (i : ℕ) → TenDigits (pos (getD (ws ++ (w ∷ [])) i 0))
+weight-small [] w h small zero = h
+weight-small [] w h small (suc i) = lit< tt
+weight-small (v ∷ ws) w h small zero = small 0
+weight-small (v ∷ ws) w h small (suc i) = weight-small ws w h (λ j. small (suc j)) i
+
+-- ---- one line more
+-- `afterLines` goes from the front: the last step is one too
+lines-next : (n : ℕ) (s : List ℕ) → afterLines (suc n) s ≡ after lineEnd (afterLines n s)
+unfolding afterLines
+lines-next zero s = refl
+lines-next (suc n) s = lines-next n (after lineEnd s)
+
+module _ (places : ℕ) (all : List ℕ) where
+  -- what is to be shown of the reading of a whole sheet
+  abbrev Right : Reading → Type 0
+  Right (reads sheet) = Writable sheet × (length (sheet .weights) ≤ places) × (all ≡ sheetText sheet)
+  Right (refuses number n) =
+      number ≡ 24 → FirstFaulty (signsOn (lineAt n all)) (numberWords (lineAt n all)) (faultOn (lineAt n all))
+
+  -- the reader stands at line n: the bytes `done` are read, and s is what follows them
+  record Stands (n : ℕ) (done s : List ℕ) : Type 0 where
+    from-one : 1 ≤ n
+    split : all ≡ done ++ s
+    reached : afterLines (n - 1) all ≡ s
+
+  -- a line that is refused, and one that lets the reader go on
+  module _ (signs : Bool) (keyword : List ℕ) (count : ℕ) {n : ℕ} {done s : List ℕ} where
+    goes-on : (next : List ℤ → List ℕ → Reading) → sameList eqb keyword TERM ≡ signs → Stands n done s
+        → ((zs : List ℤ) (rest : List ℕ) → Parsed signs keyword count s zs rest → Stands (n + 1) (done ++ lineText keyword zs) rest
+        → Right (next zs rest))
+        → Right (on (line signs keyword count s) n next)
+    goes-on next same here right = by (line signs keyword count s) (line-facts signs keyword count s)
+      where
+        by : (l : Line) → LineFacts signs keyword count s l → Right (on l n next)
+        by (numbers zs rest) p =
+            let from-one = here .from-one in
+            right zs rest p (record {
+              from-one = omega arith;
+              split = here .split ∙ ap (λ (l : List ℕ). done ++ l) (p .text) ∙ sym (append-assoc done (lineText keyword zs) rest);
+              reached = ap (λ (k : ℕ). afterLines k all) (omega arith) ∙ lines-next (n - 1) all
+                  ∙ ap (after lineEnd) (here .reached) ∙ p .next;
+            })
+        by (faulty reason) f = λ e. rw (here .reached) (f e same)
+
+  -- a refusal by a number that is not 24
+  unless : (t : Bool) (number n : ℕ) (r : Reading) → (number ≡ 24 → ⊥) → (t ≡ false → Right r) → Right (cond t (refuses number n) r)
+  unless true number n r other right = λ e. absurd (other e)
+  unless false number n r other right = right refl
+
+  -- ---- the lines, from the last kind to the first
+  module _ (job : Job) (m : ℕ) (fits : JobFits job) (least : 1 ≤ m) (most : m ≤ 500) (room : m ≤ places) where
+    weights : (ws : List ℕ) (due n : ℕ) (s : List ℕ) → length ws + due ≡ m → ((i : ℕ) → TenDigits (pos (getD ws i 0)))
+        → Stands n (tableText job m ws) s → Right (weightLines job ws due n s)
+    unfolding weightLines
+    weights ws zero n [] e small here =
+        let counted : m ≡ length ws = omega arith in
+        let text = here .split ∙ append-nil (tableText job m ws) ∙ ap (λ (k : ℕ). tableText job k ws) counted ∙ all-text job ws in
+        (writable job ws fits (omega arith) (omega arith) small, omega arith, text)
+    weights ws zero n (b ∷ s) e small here = λ h. absurd (omega arith)
+    weights ws (suc due) n s e small here = goes-on false W 1 _ refl here λ zs rest p there.
+        let w = whole zs 0 in
+        weights (ws ++ (w ∷ [])) due (n + 1) rest (simp length-append (omega arith)) (weight-small ws w (p .small 0) small)
+        (rw (one-whole p, table-text job m ws w) at there)
+
+  severity : (job : Job) (n : ℕ) (s : List ℕ) → JobFits job → Stands n (jobText job) s → Right (severityLine places job n s)
+  unfolding severityLine weightsText
+  severity job n s fits here = goes-on false SEVERITY 1 _ refl here λ zs rest p there.
+      let m = whole zs 0 in
+      unless (outside 1 500 m) 25 n _ (λ e. omega arith) λ inside.
+      unless (ltb places m) 27 n _ (λ e. omega arith) λ room.
+      let limits = within 1 500 m inside in
+      weights job m fits (limits .0) (limits .1) (ltb-false places m room) [] m (n + 1) rest (omega arith) (λ i. lit< tt)
+      (rw append-nil (rw (one-whole p) at there))
+
+  last : (law : Law) (start : Start) (n : ℕ) (s : List ℕ) → LawFits law (law .order)
+      → TenDigits (pos (start .low)) → TenDigits (pos (start .high)) → Stands n (startText law start) s
+      → Right (lastLine places law start n s)
+  unfolding lastLine
+  last law start n s fits low high here = goes-on false LAST 1 _ refl here λ zs rest p there.
+      severity (jobOf law start (whole zs 0)) (n + 1) rest (record { law = fits; low = low; high = high; last = p .small 0 })
+      (rw (one-whole p) at there)
+
+  start : (law : Law) (n : ℕ) (s : List ℕ) → LawFits law (law .order) → Stands n (lawText law (law .order)) s
+      → Right (startLine places law n s)
+  unfolding startLine
+  start law n s fits here = goes-on false START 2 _ refl here λ zs rest p there.
+      last law (startOf (whole zs 0) (whole zs 1)) (n + 1) rest fits (p .small 0) (p .small 1) (rw (two-whole p) at there)
+
+  terms : (law : Law) (i due : ℕ) (s : List ℕ) → i + due ≡ law .order → LawFits law i → Stands (i + 2) (lawText law i) s
+      → Right (termLines places law i due s)
+  unfolding termLines
+  terms law i zero s e fits here =
+      let all-read : i ≡ law .order = omega arith in
+      start law (i + 2) s (subst (LawFits law) all-read fits) (subst (λ k. Stands (i + 2) (lawText law k) s) all-read here)
+  terms law i (suc due) s e fits here = goes-on true TERM 2 _ refl here λ zs rest p there.
+      let x = signed zs 0 in
+      let y = signed zs 1 in
+      let h : i < 4 = omega (arith, fits .order-most) in
+      let text = ap (λ (l : List ℤ). lawText law i ++ lineText TERM l) (pair zs (p .counted)) ∙ law-text law i x y fits h in
+      terms (withTerm law i x y) (i + 1) due rest (omega arith) (law-next law i x y fits h (p .small 0) (p .small 1))
+      (subst₂ (λ n done. Stands n done rest) (omega arith) text there)
+
+  law : (s : List ℕ) → Stands 1 [] s → Right (lawLine places s)
+  unfolding lawLine termsText
+  law s here = goes-on false LAW 2 _ refl here λ zs rest p there.
+      let k = whole zs 0 in
+      unless (outside 1 4 k) 25 1 _ (λ e. omega arith) λ inside.
+      let limits = within 1 4 k inside in
+      terms (noTerms k (whole zs 1)) 0 k rest (omega arith)
+      (record { order-least = limits .0; order-most = limits .1; divisor = p .small 1; a = no-terms; b = no-terms })
+      (rw append-nil (rw (two-whole p) at there))
+
+  right : Right (reading places all)
+  unfolding reading afterLines
+  right = unless (outside 1 16384 (length all)) 21 0 _ (λ e. omega arith) λ _.
+      law all (record { from-one = omega arith; split = refl; reached = refl })
+
+pub takes-only-texts : TakesOnlyTexts
+takes-only-texts places s sheet e = subst (Right places s) e (right places s)
+
+pub hands-back-first-faulty : HandsBackFirstFaulty
+hands-back-first-faulty places s n e = rw e (subst (Right places s) e (right places s) refl)

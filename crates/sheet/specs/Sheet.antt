@@ -1,0 +1,59 @@
+-- The numbers that a sheet holds, and the sheet as text: "Lines in order: `LAW k D`; k lines `TERM A B`; `START s t`; `LAST X`;
+-- `SEVERITY m`; m lines `W w`."
+use mathlib.Core.List.{List, [], _∷_, _++_, map}
+use Prim.Native.Nat.{ℕ, zero, suc}
+use lib.IntN.{ℤ, pos}
+use lib.ListN.{length, getD}
+use Rattle.model.specs.declared.Law.{Law}
+use Rattle.model.specs.declared.Job.{Job}
+use Rattle.text.specs.Bytes.{ascii, lineEnd}
+use Rattle.text.specs.Lines.{spaced}
+use Rattle.text.specs.Numbers.{decimal}
+
+-- a job and the weights of its table
+pub record Sheet : Type 0 where
+  pub job : Job
+  pub weights : List ℕ
+
+-- ---- keywords
+abbrev pub LAW : List ℕ
+LAW = ascii "LAW"
+
+abbrev pub TERM : List ℕ
+TERM = ascii "TERM"
+
+abbrev pub START : List ℕ
+START = ascii "START"
+
+abbrev pub LAST : List ℕ
+LAST = ascii "LAST"
+
+abbrev pub SEVERITY : List ℕ
+SEVERITY = ascii "SEVERITY"
+
+abbrev pub W : List ℕ
+W = ascii "W"
+
+-- ---- the text
+-- a keyword and numbers, in decimal, with single spaces, and a line end
+unfoldable pub lineText : List ℕ → List ℤ → List ℕ
+lineText keyword numbers = keyword ++ (spaced (map decimal numbers) ++ (lineEnd ∷ []))
+
+-- the lines of `due` terms, the first of them term i + 1
+unfoldable pub termsText : Law → ℕ → ℕ → List ℕ
+termsText law i zero = []
+termsText law i (suc due) = lineText TERM (getD (law .a) i (pos 0) ∷ getD (law .b) i (pos 0) ∷ []) ++ termsText law (suc i) due
+
+unfoldable pub weightsText : List ℕ → List ℕ
+weightsText [] = []
+weightsText (w ∷ ws) = lineText W (pos w ∷ []) ++ weightsText ws
+
+unfoldable pub sheetText : Sheet → List ℕ
+sheetText sheet =
+    let job = sheet .job in
+    lineText LAW (pos (job .law .order) ∷ pos (job .law .divisor) ∷ [])
+    ++ (termsText (job .law) 0 (job .law .order)
+    ++ (lineText START (pos (job .start .low) ∷ pos (job .start .high) ∷ [])
+    ++ (lineText LAST (pos (job .last) ∷ [])
+    ++ (lineText SEVERITY (pos (length (sheet .weights)) ∷ [])
+    ++ weightsText (sheet .weights)))))

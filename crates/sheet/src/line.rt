@@ -1,0 +1,133 @@
+// One line: a keyword, and one number or two.
+
+use super::Reason;
+use text::Number;
+use text::lines::same;
+use text::lines::until;
+use text::numbers::number;
+ghost use mathlib.Core.Path.{_≡_};
+ghost use mathlib.Core.Bool.{true, false};
+ghost use mathlib.Core.List.{List};
+ghost use Prim.Native.Nat.{ℕ, _≤_};
+ghost use lib.IntN.{natAbs};
+ghost use lib.ListN.{length};
+ghost use Rattle.text.specs.Numbers.{signFits};
+ghost use Rattle.sheet.specs.Sheet.{TERM, W};
+ghost use Rattle.sheet.specs.Line.{line};
+ghost use Rattle.sheet.specs.Parts.{afterKeyword, headOf, startOfHead, endOfHead, nextOfHead, fields, lastOf, lineOf, nextOf};
+
+// The numbers of a line, 0 for the second of a line that has one, and where the next line begins.
+pub enum LineRead {
+    Numbers(i64, i64, usize),
+    Refused(Reason),
+}
+
+// Where the numbers of a line begin, after the space that ends its keyword, and where its line end is.
+pub enum Head {
+    Numbers(usize, usize),
+    Refused(Reason),
+}
+
+// The last number of a line.
+pub enum Last {
+    Value(i64),
+    Refused(Reason),
+}
+
+fn read_keyword(rest: &[u8], keyword: &[u8]) -> Head
+    ensures { λ r. ⌜ headOf (now (rest .entry)) r ≡ afterKeyword (now (keyword .entry)) (now (rest .entry)) ⌝ }
+    ensures { λ r. ⌜ startOfHead r ≤ endOfHead r ⌝ }
+    ensures { λ r. ⌜ nextOfHead r ≤ length (now (rest .entry)) ⌝ }
+{
+    let end = until(rest, b'\n');
+    if end == rest.len() {
+        return Head::Refused(Reason::Missing);
+    }
+    let line = &rest[..end];
+    let space = until(line, b' ');
+    if space == end {
+        return Head::Refused(Reason::Form);
+    }
+    if same(&line[..space], keyword) {
+        Head::Numbers(space + 1, end)
+    } else {
+        Head::Refused(Reason::Form)
+    }
+}
+
+// `part` is the rest of a line, which is to be one number.
+fn last_number(part: &[u8], signs: bool) -> Last
+    ensures { λ r. ⌜ ((rest : List ℕ) → lastOf r rest ≡ fields signs 1 (now (part .entry)) rest) ⌝ }
+{
+    match number(part, signs) {
+        Number::Value(z) => Last::Value(z),
+        Number::NotANumber => {
+            if until(part, b' ') == part.len() {
+                return Last::Refused(Reason::Word);
+            }
+            Last::Refused(Reason::Form)
+        }
+    }
+}
+
+// A line `KEYWORD n`.
+pub fn read_one(rest: &[u8], keyword: &[u8]) -> LineRead
+    ensures { λ r. ⌜ lineOf 1 (now (rest .entry)) r ≡ line false (now (keyword .entry)) 1 (now (rest .entry)) ⌝ }
+    ensures { λ r. ⌜ nextOf r ≤ length (now (rest .entry)) ⌝ }
+{
+    match read_keyword(rest, keyword) {
+        Head::Refused(reason) => LineRead::Refused(reason),
+        Head::Numbers(start, end) => match last_number(&rest[start..end], false) {
+            Last::Refused(reason) => LineRead::Refused(reason),
+            Last::Value(z) => LineRead::Numbers(z, 0, end + 1),
+        },
+    }
+}
+
+// A line `KEYWORD n n`; `signs` says whether its numbers may have a sign.
+pub fn read_two(rest: &[u8], keyword: &[u8], signs: bool) -> LineRead
+    ensures { λ r. ⌜ lineOf 2 (now (rest .entry)) r ≡ line signs (now (keyword .entry)) 2 (now (rest .entry)) ⌝ }
+    ensures { λ r. ⌜ nextOf r ≤ length (now (rest .entry)) ⌝ }
+{
+    match read_keyword(rest, keyword) {
+        Head::Refused(reason) => LineRead::Refused(reason),
+        Head::Numbers(start, end) => {
+            let part = &rest[start..end];
+            let space = until(part, b' ');
+            if space == part.len() {
+                return LineRead::Refused(Reason::Form);
+            }
+            match last_number(&part[space + 1..], signs) {
+                Last::Refused(reason) => LineRead::Refused(reason),
+                Last::Value(z) => match number(&part[..space], signs) {
+                    Number::NotANumber => LineRead::Refused(Reason::Word),
+                    Number::Value(y) => LineRead::Numbers(y, z, end + 1),
+                },
+            }
+        }
+    }
+}
+
+// A line `TERM A B`.
+pub fn read_term(rest: &[u8]) -> LineRead
+    ensures { λ r. ⌜ lineOf 2 (now (rest .entry)) r ≡ line true TERM 2 (now (rest .entry)) ⌝ }
+    ensures { λ r. ⌜ nextOf r ≤ length (now (rest .entry)) ⌝ }
+{
+    read_two(rest, b"TERM", true)
+}
+
+// A line `W w`.
+pub fn read_weight(rest: &[u8]) -> LineRead
+    ensures { λ r. ⌜ lineOf 1 (now (rest .entry)) r ≡ line false W 1 (now (rest .entry)) ⌝ }
+    ensures { λ r. ⌜ nextOf r ≤ length (now (rest .entry)) ⌝ }
+{
+    read_one(rest, b"W")
+}
+
+// A number that has no sign.
+pub fn whole(z: i64) -> u64
+    requires { ⌜ signFits false z ≡ true ⌝ }
+    ensures { λ r. ⌜ r ≡ natAbs z ⌝ }
+{
+    z as u64
+}

@@ -1,0 +1,200 @@
+// The sheet, line by line: each function reads the line due and goes on with the next. The weights go into a row of the reader's own, since
+// nothing may be written before the last line is known to be good.
+
+use super::LineAnswer;
+use super::Reason;
+use super::SheetRead;
+use super::line::LineRead;
+use super::line::read_one;
+use super::line::read_term;
+use super::line::read_two;
+use super::line::read_weight;
+use super::line::whole;
+use model::Job;
+use model::Law;
+use model::Start;
+use model::is_outside;
+ghost use mathlib.Core.Path.{_≡_};
+ghost use mathlib.Core.List.{List, []};
+ghost use Prim.Native.Nat.{ℕ, _≤_};
+ghost use lib.ListN.{length};
+ghost use Rattle.sheet.specs.Reading.{refuses, noTerms};
+ghost use Rattle.sheet.specs.Reading.{weightLines, severityLine, lastLine, startLine, termLines, lawLine, reading};
+ghost use Rattle.sheet.specs.Call.{numberOf, paper, told};
+
+// The most bytes that a sheet may have.
+const MOST_BYTES: u64 = 16384;
+
+// A refusal: its other numbers are 0.
+fn refused(reason: Reason, line: usize) -> SheetRead
+    ensures { λ r. ⌜ ((row : List ℕ) → paper r row ≡ told (refuses (numberOf reason) line)) ⌝ }
+{
+    let law = Law {
+        order: 0,
+        divisor: 0,
+        a: [0i64; 4],
+        b: [0i64; 4],
+    };
+    let start = Start { low: 0, high: 0 };
+    let job = Job {
+        law,
+        start,
+        last: 0,
+    };
+    SheetRead {
+        answer: LineAnswer::Refused(reason, line),
+        job,
+        count: 0,
+    }
+}
+
+// The `count` lines `W w`, the first of them line `line`, with nothing after them.
+fn read_weights(rest: &[u8], count: usize, line: usize, job: Job, weights: &mut [u64]) -> SheetRead
+    requires { ⌜ (count ≤ length (now weights)) × (count ≤ 500) × (line ≤ 9) ⌝ }
+    ensures { λ r. ⌜ paper r (now (weights .exit)) ≡ told (weightLines job [] count line (now (rest .entry))) ⌝ }
+{
+    let mut left = rest;
+    for i in 0..count {
+        match read_weight(left) {
+            LineRead::Refused(reason) => return refused(reason, line + i),
+            LineRead::Numbers(w, _, next) => {
+                weights[i] = whole(w);
+                left = &left[next..];
+            }
+        }
+    }
+    if 0 < left.len() {
+        return refused(Reason::Excess, line + count);
+    }
+    SheetRead {
+        answer: LineAnswer::Accepted,
+        job,
+        count,
+    }
+}
+
+fn read_severity(
+    rest: &[u8],
+    places: usize,
+    line: usize,
+    job: Job,
+    weights: &mut [u64],
+) -> SheetRead
+    requires { ⌜ (500 ≤ length (now weights)) × (line ≤ 8) ⌝ }
+    ensures { λ r. ⌜ paper r (now (weights .exit)) ≡ told (severityLine places job line (now (rest .entry))) ⌝ }
+{
+    match read_one(rest, b"SEVERITY") {
+        LineRead::Refused(reason) => refused(reason, line),
+        LineRead::Numbers(m, _, next) => {
+            let count = whole(m);
+            if is_outside(1, 500, count) {
+                return refused(Reason::Limit, line);
+            }
+            if places < count as usize {
+                return refused(Reason::Room, line);
+            }
+            read_weights(&rest[next..], count as usize, line + 1, job, weights)
+        }
+    }
+}
+
+fn read_last(
+    rest: &[u8],
+    places: usize,
+    line: usize,
+    law: Law,
+    start: Start,
+    weights: &mut [u64],
+) -> SheetRead
+    requires { ⌜ (500 ≤ length (now weights)) × (line ≤ 7) ⌝ }
+    ensures { λ r. ⌜ paper r (now (weights .exit)) ≡ told (lastLine places law start line (now (rest .entry))) ⌝ }
+{
+    match read_one(rest, b"LAST") {
+        LineRead::Refused(reason) => refused(reason, line),
+        LineRead::Numbers(x, _, next) => {
+            let job = Job {
+                law,
+                start,
+                last: whole(x),
+            };
+            read_severity(&rest[next..], places, line + 1, job, weights)
+        }
+    }
+}
+
+fn read_start(rest: &[u8], places: usize, line: usize, law: Law, weights: &mut [u64]) -> SheetRead
+    requires { ⌜ (500 ≤ length (now weights)) × (line ≤ 6) ⌝ }
+    ensures { λ r. ⌜ paper r (now (weights .exit)) ≡ told (startLine places law line (now (rest .entry))) ⌝ }
+{
+    match read_two(rest, b"START", false) {
+        LineRead::Refused(reason) => refused(reason, line),
+        LineRead::Numbers(s, t, next) => {
+            let start = Start {
+                low: whole(s),
+                high: whole(t),
+            };
+            read_last(&rest[next..], places, line + 1, law, start, weights)
+        }
+    }
+}
+
+// The `order` lines `TERM A B`, from line 2 on.
+fn read_terms(
+    rest: &[u8],
+    places: usize,
+    order: u64,
+    divisor: u64,
+    weights: &mut [u64],
+) -> SheetRead
+    requires { ⌜ (500 ≤ length (now weights)) × (order ≤ 4) ⌝ }
+    ensures { λ r. ⌜ paper r (now (weights .exit)) ≡ told (termLines places (noTerms order divisor) 0 order (now (rest .entry))) ⌝ }
+{
+    let mut a = [0i64; 4];
+    let mut b = [0i64; 4];
+    let mut left = rest;
+    let count = order as usize;
+    for i in 0..count {
+        match read_term(left) {
+            LineRead::Refused(reason) => return refused(reason, i + 2),
+            LineRead::Numbers(y, z, next) => {
+                a[i] = y;
+                b[i] = z;
+                left = &left[next..];
+            }
+        }
+    }
+    let law = Law {
+        order,
+        divisor,
+        a,
+        b,
+    };
+    read_start(left, places, count + 2, law, weights)
+}
+
+fn read_law(rest: &[u8], places: usize, weights: &mut [u64]) -> SheetRead
+    requires { ⌜ 500 ≤ length (now weights) ⌝ }
+    ensures { λ r. ⌜ paper r (now (weights .exit)) ≡ told (lawLine places (now (rest .entry))) ⌝ }
+{
+    match read_two(rest, b"LAW", false) {
+        LineRead::Refused(reason) => refused(reason, 1),
+        LineRead::Numbers(k, d, next) => {
+            let order = whole(k);
+            if is_outside(1, 4, order) {
+                return refused(Reason::Limit, 1);
+            }
+            read_terms(&rest[next..], places, order, whole(d), weights)
+        }
+    }
+}
+
+// What a sheet says to a row of `places` places.
+pub fn read_text(sheet: &[u8], places: usize, weights: &mut [u64]) -> SheetRead
+    requires { ⌜ 500 ≤ length (now weights) ⌝ }
+    ensures { λ r. ⌜ paper r (now (weights .exit)) ≡ told (reading places (now (sheet .entry))) ⌝ }
+{
+    if is_outside(1, MOST_BYTES, sheet.len() as u64) {
+        return refused(Reason::Size, 0);
+    }
+    read_law(sheet, places, weights)
+}

@@ -1,0 +1,4 @@
+-- Bytes as text: lines, words, numbers.
+pub mod Bytes
+pub mod Lines
+pub mod Numbers

@@ -1,0 +1,10 @@
+// Bytes as text: what stands before and after a byte, lines, and the numbers that words are.
+
+pub mod lines;
+pub mod numbers;
+
+// What a word is as a number.
+pub enum Number {
+    Value(i64),
+    NotANumber,
+}

@@ -1,0 +1,62 @@
+// Lines, and the parts of a line.
+
+ghost use mathlib.Core.Path.{_≡_};
+ghost use Prim.Native.Nat.{_≤_};
+ghost use lib.Dec.{eqb};
+ghost use lib.ListN.{length, drop};
+ghost use Rattle.algebra.specs.Table.{sameList};
+ghost use Rattle.text.specs.Lines.{before, after, lineAt};
+
+// How many bytes of `s` stand before its first `b`: all of them where it has none.
+pub fn until(s: &[u8], b: u8) -> usize
+    ensures { λ r. ⌜ r ≡ length (before b (now (s .entry))) ⌝ }
+    ensures { λ r. ⌜ r ≤ length (now (s .entry)) ⌝ }
+{
+    let mut i = 0;
+    while i < s.len() {
+        if s[i] == b {
+            return i;
+        }
+        i += 1;
+    }
+    i
+}
+
+// Where the bytes after the first `b` of `s` begin: at its end where it has none.
+pub fn past(s: &[u8], b: u8) -> usize
+    ensures { λ r. ⌜ drop r (now (s .entry)) ≡ after b (now (s .entry)) ⌝ }
+    ensures { λ r. ⌜ r ≤ length (now (s .entry)) ⌝ }
+{
+    let k = until(s, b);
+    if k < s.len() {
+        return k + 1;
+    }
+    k
+}
+
+pub fn same(s: &[u8], t: &[u8]) -> bool
+    ensures { λ r. ⌜ r ≡ sameList eqb (now (s .entry)) (now (t .entry)) ⌝ }
+{
+    if s.len() != t.len() {
+        return false;
+    }
+    for i in 0..s.len() {
+        if s[i] != t[i] {
+            return false;
+        }
+    }
+    true
+}
+
+// Line `n`, from 1, as a part of `text`, without its line end.
+pub fn line_at(text: &[u8], n: usize) -> &[u8]
+    ensures { λ r. ⌜ now r ≡ lineAt n (now (text .entry)) ⌝ }
+{
+    let mut rest = text;
+    for _ in 1..n {
+        let k = past(rest, b'\n');
+        rest = &rest[k..];
+    }
+    let k = until(rest, b'\n');
+    &rest[..k]
+}
