@@ -55,9 +55,9 @@ module _ (w : List ℕ) where
   unfolding number
   number-long h = simp (le-leb 1 (length w) (omega arith), lt-leb (length w) 10 h)
 
-  pub number-zeros : 1 < length w → length w ≤ 10 → startsWith zeroDigit w ≡ true → number false w ≡ none
+  pub number-zeros : 1 < length w → startsWith zeroDigit w ≡ true → number false w ≡ none
   unfolding number
-  number-zeros h k e = simp (le-leb 1 (length w) (omega arith), le-leb (length w) 10 k, ne-eqb (length w) 1 (omega arith), e)
+  number-zeros h e = simp (ne-eqb (length w) 1 (omega arith), e, and-false)
 
   pub number-one : length w ≡ 1 → number false w ≡ digitsAfter 0 w
   unfolding number

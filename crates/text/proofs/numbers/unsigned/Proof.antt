@@ -11,12 +11,12 @@ returns : tie.Need-returns
 returns c = sym (number-short (c .before .before .args .word .now) (c .if1 .taken))
 
 returns-2 : tie.Need-returns-2
-returns-2 c = sym (number-long (c .before .before .before .args .word .now) (c .if2 .taken))
+returns-2 c = sym (number-long (c .before .before .before .args .word .now) (omega arith))
 
 returns-3 : tie.Need-returns-3
 returns-3 c =
     let word = c .before .before .before .before .before .before .args .word .now in
-    sym (number-zeros word (omega arith) (omega arith) (sym (c .before .starts-with .ensures) ∙ c .if4 .taken))
+    sym (number-zeros word (omega arith) (sym (c .before .starts-with .ensures) ∙ c .if4 .taken))
 
 returns-4 : tie.Need-returns-4
 returns-4 c =
