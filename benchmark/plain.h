@@ -1,3 +1,4 @@
+// What the plain C versions take and give.
 #include <stddef.h>
 #include <stdint.h>
 
@@ -8,3 +9,11 @@ typedef struct {
 } PlainJob;
 
 uint64_t plain_curve(const PlainJob *job, const uint64_t *weights, size_t m, int64_t *low, int64_t *high, int64_t *bound, int64_t *work);
+
+// `number` is 0 for an acceptance. After a refusal all but `number` and `line` is 0.
+typedef struct {
+    uint64_t number, line, count;
+    PlainJob job;
+} PlainSheet;
+
+PlainSheet plain_reader(const uint8_t *sheet, size_t length, uint64_t *row, size_t places);

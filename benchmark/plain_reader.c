@@ -1,0 +1,96 @@
+// The sheet reader in plain C: one pass over the bytes, with no proof. A line that is not as it should be is looked at once more, for the
+// number of its refusal.
+#include <stdbool.h>
+#include <stddef.h>
+#include <stdint.h>
+#include <string.h>
+
+#include "plain.h"
+
+enum { MOST_BYTES = 16384, MOST_WEIGHTS = 500 };
+
+// the next byte to read, the end of the sheet, and the number of the line read last
+typedef struct {
+    const uint8_t *at, *end;
+    uint64_t line;
+} Cursor;
+
+// why the line at `p` is refused
+static uint64_t fault(const uint8_t *p, const uint8_t *end, const char *keyword, size_t count) {
+    const uint8_t *stop = memchr(p, '\n', (size_t)(end - p));
+    if (stop == NULL) return 22;
+    size_t length = strlen(keyword), spaces = 0;
+    if ((size_t)(stop - p) <= length || memcmp(p, keyword, length) != 0 || p[length] != ' ') return 23;
+    for (; p < stop; p++) spaces += *p == ' ';
+    return spaces == count ? 24 : 23;
+}
+
+// reads the number at `p` and gives the place after it, or NULL
+static const uint8_t *read_number(const uint8_t *p, const uint8_t *end, bool signs, int64_t *number) {
+    bool minus = signs && p < end && *p == '-';
+    if (minus) p++;
+    const uint8_t *first = p;
+    uint64_t value = 0;
+    for (; p < end && '0' <= *p && *p <= '9'; p++) value = value * 10 + (uint64_t)(*p - '0');
+    if (p == first || 10 < p - first || (1 < p - first && *first == '0') || (minus && value == 0)) return NULL;
+    *number = minus ? -(int64_t)value : (int64_t)value;
+    return p;
+}
+
+// reads the line due, a keyword and `count` numbers, and gives 0 or the number of a refusal
+static uint64_t read_line(Cursor *c, const char *keyword, size_t count, bool signs, int64_t *numbers) {
+    const uint8_t *p = c->at;
+    c->line++;
+    for (const char *k = keyword; *k != 0; k++, p++)
+        if (p == c->end || *p != (uint8_t)*k) return fault(c->at, c->end, keyword, count);
+    for (size_t i = 0; i < count; i++) {
+        if (p == c->end || *p != ' ') return fault(c->at, c->end, keyword, count);
+        p = read_number(p + 1, c->end, signs, &numbers[i]);
+        if (p == NULL) return fault(c->at, c->end, keyword, count);
+    }
+    if (p == c->end || *p != '\n') return fault(c->at, c->end, keyword, count);
+    c->at = p + 1;
+    return 0;
+}
+
+// the lines in order; 0 or the number of a refusal
+static uint64_t read_lines(Cursor *c, PlainSheet *s, uint64_t *row, size_t places) {
+    int64_t n[2];
+    uint64_t weights[MOST_WEIGHTS], number;
+    if ((number = read_line(c, "LAW", 2, false, n)) != 0) return number;
+    if (n[0] < 1 || 4 < n[0]) return 25;
+    s->job.order = (uint64_t)n[0];
+    s->job.divisor = (uint64_t)n[1];
+    for (size_t i = 0; i < s->job.order; i++) {
+        if ((number = read_line(c, "TERM", 2, true, n)) != 0) return number;
+        s->job.a[i] = n[0];
+        s->job.b[i] = n[1];
+    }
+    if ((number = read_line(c, "START", 2, false, n)) != 0) return number;
+    s->job.low = (uint64_t)n[0];
+    s->job.high = (uint64_t)n[1];
+    if ((number = read_line(c, "LAST", 1, false, n)) != 0) return number;
+    s->job.last = (uint64_t)n[0];
+    if ((number = read_line(c, "SEVERITY", 1, false, n)) != 0) return number;
+    if (n[0] < 1 || MOST_WEIGHTS < n[0]) return 25;
+    s->count = (uint64_t)n[0];
+    if (places < s->count) return 27;
+    for (size_t i = 0; i < s->count; i++) {
+        if ((number = read_line(c, "W", 1, false, n)) != 0) return number;
+        weights[i] = (uint64_t)n[0];
+    }
+    if (c->at < c->end) {
+        c->line++;
+        return 26;
+    }
+    memcpy(row, weights, s->count * sizeof *row);
+    return 0;
+}
+
+PlainSheet plain_reader(const uint8_t *sheet, size_t length, uint64_t *row, size_t places) {
+    if (length < 1 || MOST_BYTES < length) return (PlainSheet){.number = 21};
+    Cursor c = {sheet, sheet + length, 0};
+    PlainSheet s = {0};
+    uint64_t number = read_lines(&c, &s, row, places);
+    return number == 0 ? s : (PlainSheet){.number = number, .line = c.line};
+}
