@@ -1,5 +1,5 @@
--- What is proved of the reader's definition, so that one need not read a parser to know which sheets it takes: exactly the texts of writable
--- sheets that the row has room for.
+-- What is proved of the reader's definition, so that one need not read a parser to know which sheets it takes: exactly the texts of
+-- writable sheets that the row has room for.
 use mathlib.Core.Path.{_≡_}
 use mathlib.Core.Bool.{Bool}
 use mathlib.Core.List.{List, _∷_, _++_}

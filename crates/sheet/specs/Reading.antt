@@ -1,6 +1,6 @@
--- The sheet reader: "21: empty or over 16,384 bytes, line 0. Then line by line, in this order on a line: 22 .. 23 .. 24 .. 25, k not 1 to 4,
--- or m not 1 to 500; 27, the row has fewer than m places. After the final line, 26: bytes follow, at the line number they begin." Each line
--- goes on with the next, so that the order of refusals is that of the text below.
+-- The sheet reader: "21: empty or over 16,384 bytes, line 0. Then line by line, in this order on a line: 22 .. 23 .. 24 .. 25, k not 1 to
+-- 4, or m not 1 to 500; 27, the row has fewer than m places. After the final line, 26: bytes follow, at the line number they begin." Each
+-- line goes on with the next, so that the order of refusals is that of the text below.
 use mathlib.Core.Bool.{true, false, cond}
 use mathlib.Core.List.{List, [], _∷_, _++_}
 use Prim.Native.Nat.{ℕ, zero, suc, _+_}

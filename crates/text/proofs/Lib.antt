@@ -1,4 +1,5 @@
--- Laws of the definitions, for the proofs of this crate and of those that read and write texts. Bottom up: what a file cites stands above it.
+-- Laws of the definitions, for the proofs of this crate and of those that read and write texts. Bottom up: what a file cites stands above
+-- it.
 pub mod Scan
 pub mod Read
 pub mod Words

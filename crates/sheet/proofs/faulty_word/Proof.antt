@@ -1,6 +1,6 @@
 -- By the answer: its number says whether there is a word, its line where.
 use borrow.Author.Needs.{needs}
-use mathlib.Core.Path.{_≡_, refl, sym, ap, ap₂, _∙_}
+use mathlib.Core.Path.{_≡_, sym, ap, _∙_}
 use mathlib.Core.Bool.{Bool, true, false, cond}
 use mathlib.Core.List.{List, []}
 use Prim.Native.Nat.{ℕ}
@@ -10,7 +10,7 @@ use Rattle.model.specs.Answer.{Answer, refused}
 use Rattle.text.specs.Lines.{lineAt}
 use Rattle.sheet.specs.declared.LineAnswer.{LineAnswer}
 use Rattle.sheet.specs.Reading.{Reading, reads, refuses, reading}
-use Rattle.sheet.specs.Call.{Told, numberOf, answerOf, told, faultOn, wordOf, faultyWord}
+use Rattle.sheet.specs.Call.{Told, answerOf, told, faultOn, wordOf, faultyWord}
 use Rattle.sheet.proofs.faulty_word.Statement.{statement}
 use Rattle.sheet.proofs.faulty_word.Tie as tie
 

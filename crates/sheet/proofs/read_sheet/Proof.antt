@@ -1,14 +1,13 @@
--- What the reader tells of its own row is what it tells of the lent one, once the weights are put there. They fit in both, since an accepted
--- sheet has at most 500 weights and at most as many as there are places.
+-- What the reader tells of its own row is what it tells of the lent one, once the weights are put there. They fit in both, since an
+-- accepted sheet has at most 500 weights and at most as many as there are places.
 use borrow.Author.Needs.{needs}
 use mathlib.Core.Path.{_≡_, refl, sym, ap, subst, _∙_}
-use mathlib.Core.List.{List, _++_}
+use mathlib.Core.List.{List}
 use Prim.Native.Nat.{ℕ, _≤_, zero-le}
 use native.Mathlib.Omega.{arith}
 use lib.ListN.{length, take, drop}
 use lib.Seq.{length-take-le, take-append-seam}
 use Rattle.algebra.specs.Slice.{written}
-use Rattle.model.specs.Answer.{Answer}
 use Rattle.sheet.specs.declared.SheetRead.{SheetRead}
 use Rattle.sheet.specs.Reading.{Reading, reads, refuses, reading}
 use Rattle.sheet.specs.Call.{Told, answerOf, paper, told, rowOnReturn}
@@ -64,7 +63,8 @@ returns c =
     let put = c .before .before in
     let read = put .before .before .before .before in
     let stored = read .read-text .ensures in (
-      ap (paper (read .read-text .result)) (put .put .ensures) ∙ told-again (read .read-text .result) _ (row read) (own-room (put .before .before .before))
+      ap (paper (read .read-text .result)) (put .put .ensures)
+          ∙ told-again (read .read-text .result) _ (row read) (own-room (put .before .before .before))
           ∙ stored,
       put .put .ensures ∙ ap (λ (t : Told). written (t .weights) (row read)) stored ∙ row-written (reader read) (row read),
     )

@@ -1,9 +1,9 @@
 -- The loop's invariant: k bytes stand before the first space of the rest, and the first faulty word of the line is that of the rest. A turn
 -- goes on to the word after that space.
 use borrow.Author.Needs.{needs}
-use mathlib.Core.Path.{_≡_, refl, sym, ap, _∙_}
+use mathlib.Core.Path.{_≡_, sym, ap, _∙_}
 use mathlib.Core.Bool.{Bool, true, false, cond}
-use mathlib.Core.List.{List, [], _∷_}
+use mathlib.Core.List.{List, []}
 use Prim.Native.Nat.{ℕ, _+_, _-_, _≤_}
 use native.Mathlib.Omega.{arith}
 use lib.ListN.{length, take, drop, length-drop}
@@ -47,59 +47,64 @@ turn signs rest next k t h e l d =
     ∙ ap (λ (w : List ℕ). cond (isNone (number signs w)) w (firstNoNumber signs (numberWords next))) (sym word)
     ∙ ap (λ (b : Bool). cond b (take k next) (firstNoNumber signs (numberWords next))) d
 
-next-rest : (rest : List ℕ) (k : ℕ) → k ≡ length (before space rest)
-    → take (length rest - (k + 1)) (drop (k + 1) rest) ≡ after space rest
-next-rest rest k e = part-to-end rest (k + 1) ∙ until-after space rest k e
+module _ (c : tie.After-until2 Inv-loop μ-loop) where
+  abbrev loop-at : tie.At-loop Inv-loop μ-loop
+  loop-at = c .before .before .before
 
--- a turn of the loop
-turned : (c : tie.After-is-no-number Inv-loop μ-loop) (t : Bool) → c .is-no-number .result ≡ t →
-    let at = c .before .before .before .before .before in
-    let a = at .before .before .before .args in
-    let rest = at .loop .rest .now in
-    let next = take (length rest - (at .loop .k + 1)) (drop (at .loop .k + 1) rest) in
-    firstNoNumber (a .signs) (numberWords (a .line .now))
-    ≡ cond t (take (c .before .before .until2 .result) next) (firstNoNumber (a .signs) (numberWords next))
-turned c t e =
-    let at = c .before .before .before .before .before in
-    let rest = at .loop .rest .now in
-    at .loop .inv .3
-    ∙ turn _ rest _ _ _ (until-found space rest (at .loop .k) (at .loop .inv .0) (omega arith)) (next-rest rest (at .loop .k) (at .loop .inv .0)) (c .before .before .until2 .ensures .0)
-    (sym (c .is-no-number .ensures) ∙ e)
+  abbrev line : List ℕ
+  line = loop-at .before .before .before .args .line .now
 
-shorter : (c : tie.After-until2 Inv-loop μ-loop) →
-    let at = c .before .before .before in
-    let rest = at .loop .rest .now in
-    length (take (length rest - (at .loop .k + 1)) (drop (at .loop .k + 1) rest)) ≤ length (at .before .before .before .args .line .now)
-shorter c =
-    let at = c .before .before .before in
-    let rest = at .loop .rest .now in
-    rw (part-to-end rest (at .loop .k + 1), length-drop (at .loop .k + 1) rest) (omega arith)
+  abbrev signs : Bool
+  signs = loop-at .before .before .before .args .signs
+
+  abbrev rest : List ℕ
+  rest = loop-at .loop .rest .now
+
+  abbrev k : ℕ
+  k = loop-at .loop .k
+
+  abbrev next : List ℕ
+  next = take (length rest - (k + 1)) (drop (k + 1) rest)
+
+  shorter : length next ≤ length line
+  shorter = rw (part-to-end rest (k + 1), length-drop (k + 1) rest) (omega arith)
+
+  -- the word is a part of it
+  word-length : c .until2 .result ≡ length (take (c .until2 .result) next)
+  word-length = sym (length-take-le (c .until2 .result) next (c .until2 .ensures .1))
+
+  -- a turn of the loop
+  turned : (t : Bool) → isNone (number signs (take (c .until2 .result) next)) ≡ t
+      → firstNoNumber signs (numberWords line) ≡ cond t (take (c .until2 .result) next) (firstNoNumber signs (numberWords next))
+  turned t e =
+      loop-at .loop .inv .3
+      ∙ turn signs rest next (c .until2 .result) t
+      (until-found space rest k (loop-at .loop .inv .0) (omega arith))
+      (part-to-end rest (k + 1) ∙ until-after space rest k (loop-at .loop .inv .0))
+      (c .until2 .ensures .0)
+      e
 
 returns : tie.Need-returns Inv-loop μ-loop
-returns c = sym (turned (c .before .before) true (c .before .if1 .taken))
+returns c =
+    let test = c .before .before in
+    sym (turned (test .before .before) true (sym (test .is-no-number .ensures) ∙ c .before .if1 .taken))
 
 returns-2 : tie.Need-returns-2 Inv-loop μ-loop
 unfolding firstNoNumber
 returns-2 c =
     let at = c .before .before in
     let rest = at .loop .rest .now in
-    sym (at .loop .inv .3 ∙ ap (firstNoNumber _) (words-by rest false (until-end space rest (at .loop .k) (at .loop .inv .0) (omega arith))))
+    let alone = until-end space rest (at .loop .k) (at .loop .inv .0) (omega arith) in
+    sym (at .loop .inv .3 ∙ ap (firstNoNumber _) (words-by rest false alone))
 
 loop-again : tie.Need-loop-again Inv-loop μ-loop
-loop-again c = (
-  c .before .before .before .until2 .ensures .0,
-  c .before .before .before .until2 .ensures .1,
-  shorter (c .before .before .before),
-  turned (c .before) false (c .if1 .left),
-)
-
--- the word is a part of the rest
-word-length : (c : tie.After-until2 Inv-loop μ-loop) →
-    let at = c .before .before .before in
-    let rest = at .loop .rest .now in
-    let next = take (length rest - (at .loop .k + 1)) (drop (at .loop .k + 1) rest) in
-    c .until2 .result ≡ length (take (c .until2 .result) next)
-word-length c = sym (length-take-le (c .until2 .result) _ (c .until2 .ensures .1))
+loop-again c =
+    let at = c .before .before .before in (
+      at .until2 .ensures .0,
+      at .until2 .ensures .1,
+      shorter at,
+      turned at false (sym (c .before .is-no-number .ensures) ∙ c .if1 .left),
+    )
 
 pub first-no-number-spec : {M : Type 1} → statement M
 first-no-number-spec =

@@ -2,7 +2,6 @@
 use mathlib.Core.Path.{_∙_, sym, ap}
 use borrow.Author.Needs.{needs}
 use Rattle.text.specs.Numbers.{found}
-use Rattle.text.specs.declared.Number.{Number}
 use Rattle.sheet.specs.Line.{isNone}
 use Rattle.sheet.proofs.fault.is_no_number.Statement.{statement}
 use Rattle.sheet.proofs.fault.is_no_number.Tie as tie
