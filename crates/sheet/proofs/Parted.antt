@@ -18,8 +18,7 @@ use Rattle.text.specs.Numbers.{number}
 use Rattle.text.proofs.Scan.{before-take, has-before, words-split, until-before, until-after, until-end, until-found}
 use Rattle.text.proofs.Decimal.{decimal-plain, number-is-decimal}
 use Rattle.sheet.specs.Line.{Line, numbers, faulty, both, allNumbers, ofNumbers, line}
-use Rattle.sheet.specs.Parts.{Rest, parts, wrong, afterKeyword, headOf, startOfHead, endOfHead, nextOfHead, fields}
-use Rattle.sheet.specs.declared.line.Head.{Head}
+use Rattle.sheet.specs.Parts.{Rest, parts, wrong, afterKeyword, headOf, fields}
 use Rattle.sheet.specs.declared.line.Head.the-variants.{Numbers}
 
 -- ---- the keyword
@@ -57,11 +56,6 @@ module _ (keyword s : List ℕ) (end : ℕ) (e : end ≡ length (before lineEnd 
           until-after space (take end s) k f,
           until-after lineEnd s end e,
         )
-
--- a head that is found lies within the n bytes that it was found in
-pub head-within : (start end n : ℕ) (head : Head) → head ≡ Numbers start end → startOfHead head ≤ endOfHead head → nextOfHead head ≤ n
-    → (start ≤ end) × (end < n)
-head-within start end n head e h k = (omega (arith, ap startOfHead e, ap endOfHead e), omega (arith, ap nextOfHead e))
 
 -- ---- the fields
 abbrev pub ofRest : Bool → ℕ → Rest → Line

@@ -1,7 +1,7 @@
 -- What the inner functions of the reader find, in the words of the definitions.
 use mathlib.Core.Bool.{Bool, _&&_, cond}
 use mathlib.Core.List.{List, [], _∷_}
-use Prim.Native.Nat.{ℕ, _+_, _-_}
+use Prim.Native.Nat.{ℕ, _+_, _-_, _≤_, _<_}
 use lib.Dec.{eqb}
 use lib.ListN.{length, take, drop}
 use Rattle.algebra.specs.Table.{sameList}
@@ -33,18 +33,10 @@ abbrev pub headOf : List ℕ → Head → Rest
 headOf s (H.Numbers start end) = parts (take (end - start) (drop start s)) (drop (end + 1) s)
 headOf s (H.Refused reason) = wrong (numberOf reason)
 
--- the numbers stand within the bytes
-abbrev pub startOfHead : Head → ℕ
-startOfHead (H.Numbers start end) = start
-startOfHead (H.Refused reason) = 0
-
-abbrev pub endOfHead : Head → ℕ
-endOfHead (H.Numbers start end) = end
-endOfHead (H.Refused reason) = 0
-
-abbrev pub nextOfHead : Head → ℕ
-nextOfHead (H.Numbers start end) = end + 1
-nextOfHead (H.Refused reason) = 0
+-- the numbers stand within n bytes, and a line end after them
+abbrev pub headWithin : ℕ → Head → Type 0
+headWithin n (H.Numbers start end) = (start ≤ end) × (end < n)
+headWithin n (H.Refused reason) = Unit
 
 -- ---- its numbers
 -- the words of a part, which are to be a count of numbers

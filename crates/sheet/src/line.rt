@@ -12,9 +12,8 @@ ghost use Prim.Native.Nat.{ℕ, _≤_};
 ghost use lib.IntN.{natAbs};
 ghost use lib.ListN.{length};
 ghost use Rattle.text.specs.Numbers.{signFits};
-ghost use Rattle.sheet.specs.Sheet.{TERM, W};
 ghost use Rattle.sheet.specs.Line.{line};
-ghost use Rattle.sheet.specs.Parts.{afterKeyword, headOf, startOfHead, endOfHead, nextOfHead, fields, lastOf, lineOf, nextOf};
+ghost use Rattle.sheet.specs.Parts.{afterKeyword, headOf, headWithin, fields, lastOf, lineOf, nextOf};
 
 // The numbers of a line, 0 for the second of a line that has one, and where the next line begins.
 pub enum LineRead {
@@ -36,8 +35,7 @@ pub enum Last {
 
 fn read_keyword(rest: &[u8], keyword: &[u8]) -> Head
     ensures { λ r. ⌜ headOf (now (rest .entry)) r ≡ afterKeyword (now (keyword .entry)) (now (rest .entry)) ⌝ }
-    ensures { λ r. ⌜ startOfHead r ≤ endOfHead r ⌝ }
-    ensures { λ r. ⌜ nextOfHead r ≤ length (now (rest .entry)) ⌝ }
+    ensures { λ r. ⌜ headWithin (length (now (rest .entry))) r ⌝ }
 {
     let end = until(rest, b'\n');
     if end == rest.len() {
@@ -106,22 +104,6 @@ pub fn read_two(rest: &[u8], keyword: &[u8], signs: bool) -> LineRead
             }
         }
     }
-}
-
-// A line `TERM A B`.
-pub fn read_term(rest: &[u8]) -> LineRead
-    ensures { λ r. ⌜ lineOf 2 (now (rest .entry)) r ≡ line true TERM 2 (now (rest .entry)) ⌝ }
-    ensures { λ r. ⌜ nextOf r ≤ length (now (rest .entry)) ⌝ }
-{
-    read_two(rest, b"TERM", true)
-}
-
-// A line `W w`.
-pub fn read_weight(rest: &[u8]) -> LineRead
-    ensures { λ r. ⌜ lineOf 1 (now (rest .entry)) r ≡ line false W 1 (now (rest .entry)) ⌝ }
-    ensures { λ r. ⌜ nextOf r ≤ length (now (rest .entry)) ⌝ }
-{
-    read_one(rest, b"W")
 }
 
 // A number that has no sign.

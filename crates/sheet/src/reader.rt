@@ -6,9 +6,7 @@ use super::Reason;
 use super::SheetRead;
 use super::line::LineRead;
 use super::line::read_one;
-use super::line::read_term;
 use super::line::read_two;
-use super::line::read_weight;
 use super::line::whole;
 use model::Job;
 use model::Law;
@@ -55,7 +53,7 @@ fn read_weights(rest: &[u8], count: usize, line: usize, job: Job, weights: &mut 
 {
     let mut left = rest;
     for i in 0..count {
-        match read_weight(left) {
+        match read_one(left, b"W") {
             LineRead::Refused(reason) => return refused(reason, line + i),
             LineRead::Numbers(w, _, next) => {
                 weights[i] = whole(w);
@@ -154,7 +152,7 @@ fn read_terms(
     let mut left = rest;
     let count = order as usize;
     for i in 0..count {
-        match read_term(left) {
+        match read_two(left, b"TERM", true) {
             LineRead::Refused(reason) => return refused(reason, i + 2),
             LineRead::Numbers(y, z, next) => {
                 a[i] = y;

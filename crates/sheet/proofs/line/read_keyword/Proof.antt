@@ -16,7 +16,7 @@ returns : tie.Need-returns
 returns c =
     let a = c .before .before .before .before .args in
     let end = c .before .until in
-    (sym (no-line-end (a .keyword .now) (a .rest .now) (end .result) (end .ensures .0) (omega arith)), search needs)
+    (sym (no-line-end (a .keyword .now) (a .rest .now) (end .result) (end .ensures .0) (omega arith)), tt)
 
 slice-aggregate-line : tie.Need-slice-aggregate-line
 slice-aggregate-line c =
@@ -30,7 +30,7 @@ returns-2 c =
     let end = at .until in
     let space = c .before .until2 in
     let alone = no-space (a .keyword .now) (a .rest .now) (end .result) (end .ensures .0) (space .result) (space .ensures .0) in
-    (sym (alone (omega arith) (omega arith)), search needs)
+    (sym (alone (omega arith) (omega arith)), tt)
 
 slice-aggregate-same : tie.Need-slice-aggregate-same
 slice-aggregate-same c = let space = c .before .before .until2 in sym (length-take-le (space .result) _ (space .ensures .1))
@@ -62,10 +62,10 @@ module _ (c : tie.After-same) where
       (omega arith) t (earlier (c .before .before)) (sym e ∙ c .same .ensures)
 
 returns-3 : tie.Need-returns-3
-returns-3 c = let l = earlier (c .before .before .before) in (sym (decided (c .before) _ (c .if3 .taken)), search needs)
+returns-3 c = let l = earlier (c .before .before .before) in (sym (decided (c .before) _ (c .if3 .taken)), (omega arith, omega arith))
 
 returns-4 : tie.Need-returns-4
-returns-4 c = (sym (decided (c .before) _ (c .if3 .left)), search needs)
+returns-4 c = (sym (decided (c .before) _ (c .if3 .left)), tt)
 
 pub read-keyword-spec : {M : Type 1} → statement M
 read-keyword-spec =

@@ -1,6 +1,6 @@
 -- What `read_keyword` finds parts the line, and what `last_number` finds of the part is the rest of it.
 use borrow.Author.Needs.{needs}
-use mathlib.Core.Path.{_≡_, refl, sym, ap, _∙_}
+use mathlib.Core.Path.{_≡_, refl, sym, ap, subst, _∙_}
 use mathlib.Core.Bool.{false}
 use mathlib.Core.List.{List, [], _∷_}
 use Prim.Native.Nat.{ℕ, _+_, _≤_, _<_}
@@ -12,8 +12,8 @@ use Rattle.algebra.proofs.Size.{held}
 use Rattle.sheet.specs.declared.line.Head.{Head}
 use Rattle.sheet.specs.declared.line.Last.{Last}
 use Rattle.sheet.specs.Line.{Line, numbers, line}
-use Rattle.sheet.specs.Parts.{headOf, lastOf}
-use Rattle.sheet.proofs.Parted.{ofRest, line-fields, head-within}
+use Rattle.sheet.specs.Parts.{headOf, headWithin, lastOf}
+use Rattle.sheet.proofs.Parted.{ofRest, line-fields}
 use Rattle.sheet.proofs.line.read_one.Statement.{statement}
 use Rattle.sheet.proofs.line.read_one.Tie as tie
 
@@ -40,7 +40,7 @@ module _ (c : tie.After-start) where
   within : (start ≤ end) × (end < length (rest (c .before .before)))
   within =
       let head = c .before .before .read-keyword in
-      head-within start end _ (head .result) (c .start .given .1) (head .ensures .1 .0) (head .ensures .1 .1)
+      subst (headWithin (length (rest (c .before .before)))) (c .start .given .1) (head .ensures .1)
 
 module _ (c : tie.After-last-number) where
   abbrev head-at : tie.After-start

@@ -1,7 +1,7 @@
 -- What `read_keyword` finds parts the line, and the first space parts its two numbers. The second is read before the first, since too many
 -- words are refused before a word that is no number.
 use borrow.Author.Needs.{needs}
-use mathlib.Core.Path.{_≡_, refl, sym, ap, _∙_}
+use mathlib.Core.Path.{_≡_, refl, sym, ap, subst, _∙_}
 use mathlib.Core.Bool.{Bool}
 use mathlib.Core.List.{List, [], _∷_}
 use mathlib.Core.Option.{Option}
@@ -21,8 +21,8 @@ use Rattle.text.proofs.Scan.{until-before, until-after, until-end, until-found}
 use Rattle.sheet.specs.declared.line.Head.{Head}
 use Rattle.sheet.specs.declared.line.Last.{Last}
 use Rattle.sheet.specs.Line.{Line, numbers, line}
-use Rattle.sheet.specs.Parts.{headOf, fields, lastOf}
-use Rattle.sheet.proofs.Parted.{ofRest, line-fields, head-within, withFirst, too-few, first-field}
+use Rattle.sheet.specs.Parts.{headOf, headWithin, fields, lastOf}
+use Rattle.sheet.proofs.Parted.{ofRest, line-fields, withFirst, too-few, first-field}
 use Rattle.sheet.proofs.line.read_two.Statement.{statement}
 use Rattle.sheet.proofs.line.read_two.Tie as tie
 
@@ -52,7 +52,7 @@ module _ (c : tie.After-start) where
   within : (start ≤ end) × (end < length (rest (c .before .before)))
   within =
       let head = c .before .before .read-keyword in
-      head-within start end _ (head .result) (c .start .given .1) (head .ensures .1 .0) (head .ensures .1 .1)
+      subst (headWithin (length (rest (c .before .before)))) (c .start .given .1) (head .ensures .1)
 
   -- the bytes of the numbers, and those after the line
   abbrev part : List ℕ

@@ -19,31 +19,31 @@ abbrev lawOf : ℕ → ℕ → List ℤ → List ℤ → Law
 lawOf order divisor a b = record { order = order; divisor = divisor; a = a; b = b }
 
 abbrev Inv-loop : tie.InvT-loop
-Inv-loop rest places order divisor weights a₀ b₀ left₀ count i₀ a b left i =
+Inv-loop rest places order divisor weights a₀ b₀ left₀ count i₀ bytes a b left i =
     (i ≤ count)
     × (termLines places (noTerms order divisor) 0 count rest ≡ termLines places (lawOf order divisor a b) i (count - i) left)
 
 abbrev μ-loop : tie.MeasureT-loop
-μ-loop rest places order divisor weights a₀ b₀ left₀ count i₀ a b left i = count - i
+μ-loop rest places order divisor weights a₀ b₀ left₀ count i₀ bytes a b left i = count - i
 
 loop-holds : tie.Need-loop-holds Inv-loop μ-loop
 loop-holds c = (search needs, rw sub-zero)
 
-abbrev left : tie.After-read-term Inv-loop μ-loop → List ℕ
-left c = c .before .before .loop .left .now
+abbrev left : tie.After-read-two Inv-loop μ-loop → List ℕ
+left c = c .before .before .before .loop .left .now
 
 good : (c : tie.After-y Inv-loop μ-loop)
     → GoodLine true TERM 2 (left (c .before .before)) (c .y .given .0 .0) (c .y .given .0 .1 .0) (c .y .given .0 .1 .1 .0)
-good c = good-line true TERM 2 (left (c .before .before)) (c .before .before .read-term .ensures) (c .y .given .1)
+good c = good-line true TERM 2 (left (c .before .before)) (c .before .before .read-two .ensures) (c .y .given .1)
 
 returns : tie.Need-returns Inv-loop μ-loop
 returns c =
     let found = c .before .before in
     let read = found .before .before in
-    let at = read .before .before in
+    let at = read .before .before .before in
     let p = at .before .before .before .args in
     let law = lawOf (p .order) (p .divisor) (at .loop .a) (at .loop .b) in
-    let bad = faulty-line true TERM 2 (left read) (read .read-term .ensures) (found .reason .given .1) in
+    let bad = faulty-line true TERM 2 (left read) (read .read-two .ensures) (found .reason .given .1) in
     let step = term-faulty (p .places) law (p .order) (at .loop .i) (left read) (omega arith) bad in
     rw (at .loop .inv .1 ∙ step) (c .refused .ensures _)
 
@@ -60,7 +60,7 @@ loop-again : tie.Need-loop-again Inv-loop μ-loop
 loop-again c =
     let found = c .before .before in
     let read = found .before .before in
-    let at = read .before .before in
+    let at = read .before .before .before in
     let p = at .before .before .before .args in
     let law = lawOf (p .order) (p .divisor) (at .loop .a) (at .loop .b) in
     let step = term-good (p .places) law (p .order) (at .loop .i) (left read) (omega arith) (good found .gives) in
@@ -73,6 +73,7 @@ read-terms-spec =
     Inv-loop
     μ-loop
     loop-holds
+    (λ c. search needs)
     (λ c κs. search needs)
     (λ c. search needs)
     (λ c. search needs)
