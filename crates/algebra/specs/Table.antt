@@ -1,16 +1,17 @@
--- A claim over a table of cases: one test that the checker computes over the whole table.
+-- Tests over lists: each element passes, two are the same; and claims over a table of cases, by one test that the checker computes over the
+-- whole table.
 use mathlib.Core.Path.{_≡_}
 use mathlib.Core.Bool.{Bool, true, false, _&&_}
 use mathlib.Core.List.{List, [], _∷_, List·Memᴰ}
 use lib.Dec.{T, eqb}
 use lib.IntN.{ℤ, pos, negsuc}
 
--- the test passes at each row of the table
+-- the test passes at each element
 abbrev pub every : {A : Type 0} → (A → Bool) → List A → Bool
 every test [] = true
 every test (c ∷ cs) = test c && every test cs
 
--- then it passes at any row that the table has
+-- then it passes at any that the list has
 abbrev pub EachPasses : Type 0 → Type 0
 EachPasses A = (test : A → Bool) (table : List A) → T (every test table) → (c : A) → List·Memᴰ c table → T (test c)
 

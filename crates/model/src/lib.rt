@@ -1,4 +1,4 @@
-// What a job is made of. The numbers may have any content: the curve call refuses what lies outside the paper's limits.
+// What a job is made of, and the test of a limit. The numbers may have any content: the curve call refuses what lies outside the paper's limits.
 
 ghost use mathlib.Core.Path.{_≡_};
 ghost use Rattle.model.specs.Answer.{outside};
@@ -24,6 +24,7 @@ pub struct Job {
     pub last: u64,
 }
 
+// Whether `n` is not from `least` to `most`, a condition of several calls' lists.
 pub fn is_outside(least: u64, most: u64, n: u64) -> bool
     ensures { λ r. ⌜ r ≡ outside least most n ⌝ }
 {

@@ -17,9 +17,9 @@ use Rattle.text.specs.Numbers.{decimal, number, TenDigits, signFits}
 use Rattle.text.proofs.Words.{split-at-first, words-joined}
 use Rattle.text.proofs.Decimal.{number-is-decimal}
 use Rattle.sheet.specs.Sheet.{TERM, lineText}
-use Rattle.sheet.specs.Line.{Line, numbers, faulty, both, isNone, allNumbers, ofNumbers, ofWords, line}
+use Rattle.sheet.specs.Line.{Line, numbers, faulty, both, allNumbers, ofNumbers, ofWords, line}
 use Rattle.sheet.specs.Reading.{signed, whole}
-use Rattle.sheet.specs.Call.{firstNoNumber, numberWords, signsOn, faultOn}
+use Rattle.sheet.specs.Call.{isNone, firstNoNumber, numberWords, signsOn, faultOn}
 use Rattle.sheet.specs.Accepts.{FirstFaulty}
 
 -- ---- words
@@ -41,14 +41,14 @@ found signs (w ∷ ws) = by (number signs w) refl (allNumbers signs ws) (found s
   where
     by : (z : Option ℤ) → number signs w ≡ z → (zs : Option (List ℤ)) → Found signs ws (firstNoNumber signs ws) zs
         → Found signs (w ∷ ws) (cond (isNone z) w (firstNoNumber signs ws)) (both z zs)
-    by none e zs f = record { earlier = []; later = ws; stands = refl; values = []; are-numbers = refl; is-none = e }
+    by none e zs f = record { earlier = []; later = ws; stands = refl; values = []; are-numbers = refl; is-no-number = e }
     by (some z) e none f = record {
       earlier = w ∷ f .earlier;
       later = f .later;
       stands = ap (λ (vs : List (List ℕ)). w ∷ vs) (f .stands);
       values = z ∷ f .values;
       are-numbers = rw (e, f .are-numbers);
-      is-none = f .is-none;
+      is-no-number = f .is-no-number;
     }
     by (some z) e (some zs) f =
         let d = number-is-decimal signs w z e in
@@ -122,7 +122,7 @@ module _ (signs : Bool) (keyword : List ℕ) (count : ℕ) (s : List ℕ) where
 
 -- ---- its numbers
 -- a number without a sign is its size
-pub is-size : (z : ℤ) → signFits false z ≡ true → z ≡ pos (natAbs z)
+is-size : (z : ℤ) → signFits false z ≡ true → z ≡ pos (natAbs z)
 is-size (pos n) e = refl
 is-size (negsuc n) e = absurd (false≢true e)
 

@@ -14,7 +14,7 @@ use Rattle.sheet.specs.Line.{allNumbers}
 use Rattle.sheet.specs.Reading.{reads, refuses, reading}
 use Rattle.sheet.specs.Call.{numberWords, signsOn, faultyWord}
 
--- the four terms of a law: those past the order are zero, and so is what lies past the fourth
+-- the four terms of a law, at most 10 digits each; those past the order are zero
 pub record Terms (order : ℕ) (terms : List ℤ) : Type 0 where
   pub four : length terms ≡ 4
   pub past : (i : ℕ) → order ≤ i → getD terms i (pos 0) ≡ pos 0
@@ -55,7 +55,7 @@ pub record FirstFaulty (signs : Bool) (ws : List (List ℕ)) (word : List ℕ) :
   pub stands : ws ≡ earlier ++ (word ∷ later)
   pub values : List ℤ
   pub are-numbers : allNumbers signs earlier ≡ some values
-  pub is-none : number signs word ≡ none
+  pub is-no-number : number signs word ≡ none
 
 -- with 24 the word handed back is the first on its line, after the keyword, that is no number there
 abbrev pub HandsBackFirstFaulty : Type 0

@@ -1,9 +1,11 @@
 -- The two calls: the sheet reader, "Takes the sheet's bytes and a lent row for weights", and the call that gives the faulty word, "from the
 -- sheet and the row's number of places".
-use mathlib.Core.Bool.{Bool, cond}
+use mathlib.Core.Bool.{Bool, true, false, cond}
 use mathlib.Core.List.{List, [], _∷_}
+use mathlib.Core.Option.{Option, none, some}
 use Prim.Native.Nat.{ℕ}
 use lib.Dec.{eqb}
+use lib.IntN.{ℤ}
 use lib.ListN.{length, take, drop, getD}
 use Rattle.algebra.specs.Slice.{written}
 use Rattle.algebra.specs.Table.{sameList}
@@ -17,7 +19,6 @@ use Rattle.sheet.specs.declared.LineAnswer.{LineAnswer}
 use Rattle.sheet.specs.declared.LineAnswer.the-variants.{Accepted, Refused}
 use Rattle.sheet.specs.declared.SheetRead.{SheetRead}
 use Rattle.sheet.specs.Sheet.{TERM}
-use Rattle.sheet.specs.Line.{isNone}
 use Rattle.sheet.specs.Reading.{Reading, reads, refuses, noTerms, startOf, jobOf, reading}
 
 -- ---- the answer
@@ -60,7 +61,11 @@ rowOnReturn (reads sheet) row = written (sheet .weights) row
 rowOnReturn (refuses number line) row = row
 
 -- ---- the faulty word
--- the first word that is no number
+abbrev pub isNone : Option ℤ → Bool
+isNone none = true
+isNone (some z) = false
+
+-- the first word that is no number; empty where each is one
 unfoldable pub firstNoNumber : Bool → List (List ℕ) → List ℕ
 firstNoNumber signs [] = []
 firstNoNumber signs (w ∷ ws) = cond (isNone (number signs w)) w (firstNoNumber signs ws)

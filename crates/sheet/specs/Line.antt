@@ -1,6 +1,6 @@
 -- One line of a sheet: "22, the line due is missing or has no line end; 23, wrong keyword or wrong count of words; 24, a word that is no
 -- number here".
-use mathlib.Core.Bool.{Bool, true, false, _&&_, cond}
+use mathlib.Core.Bool.{Bool, _&&_, cond}
 use mathlib.Core.List.{List, [], _∷_}
 use mathlib.Core.Option.{Option, none, some}
 use Prim.Native.Nat.{ℕ}
@@ -17,25 +17,23 @@ pub data Line : Type 0 where
   numbers : List ℤ → List ℕ → Line
   faulty : ℕ → Line
 
--- the numbers that words are, where each of them is one
+-- a first number and the others, where all are there
 abbrev pub both : Option ℤ → Option (List ℤ) → Option (List ℤ)
 both (some z) (some zs) = some (z ∷ zs)
 both (some z) none = none
 both none zs = none
 
+-- the numbers that words are, where each of them is one
 unfoldable pub allNumbers : Bool → List (List ℕ) → Option (List ℤ)
 allNumbers signs [] = some []
 allNumbers signs (w ∷ ws) = both (number signs w) (allNumbers signs ws)
 
-abbrev pub isNone : Option ℤ → Bool
-isNone none = true
-isNone (some z) = false
-
--- the words after the keyword
+-- what the words after the keyword make of the line
 abbrev pub ofNumbers : Option (List ℤ) → List ℕ → Line
 ofNumbers (some zs) rest = numbers zs rest
 ofNumbers none rest = faulty 24
 
+-- the words of a line, of which there is always one
 abbrev pub ofWords : Bool → List ℕ → ℕ → List (List ℕ) → List ℕ → Line
 ofWords signs keyword count [] rest = faulty 23
 ofWords signs keyword count (w ∷ ws) rest =

@@ -5,12 +5,11 @@ use text::lines::same;
 use text::lines::until;
 use text::numbers::number;
 ghost use mathlib.Core.Path.{_≡_};
-ghost use Rattle.text.specs.Numbers.{number as numberOf};
-ghost use Rattle.sheet.specs.Call.{firstNoNumber, numberWords, signsOn, faultOn};
-ghost use Rattle.sheet.specs.Line.{isNone};
+ghost use Rattle.text.specs.Numbers.{number as wordNumber};
+ghost use Rattle.sheet.specs.Call.{isNone, firstNoNumber, numberWords, signsOn, faultOn};
 
 fn is_no_number(word: &[u8], signs: bool) -> bool
-    ensures { λ r. ⌜ r ≡ isNone (numberOf signs (now (word .entry))) ⌝ }
+    ensures { λ r. ⌜ r ≡ isNone (wordNumber signs (now (word .entry))) ⌝ }
 {
     match number(word, signs) {
         Number::Value(_) => false,
@@ -22,8 +21,8 @@ fn is_no_number(word: &[u8], signs: bool) -> bool
 fn has_signs(line: &[u8]) -> bool
     ensures { λ r. ⌜ r ≡ signsOn (now (line .entry)) ⌝ }
 {
-    let k = until(line, b' ');
-    same(&line[..k], b"TERM")
+    let space = until(line, b' ');
+    same(&line[..space], b"TERM")
 }
 
 // The first word after the keyword that is no number, and an empty part where each is one.
@@ -31,12 +30,12 @@ fn first_no_number(line: &[u8], signs: bool) -> &[u8]
     ensures { λ r. ⌜ now r ≡ firstNoNumber signs (numberWords (now (line .entry))) ⌝ }
 {
     let mut rest = line;
-    let mut k = until(rest, b' ');
-    while k < rest.len() {
-        rest = &rest[k + 1..];
-        k = until(rest, b' ');
-        if is_no_number(&rest[..k], signs) {
-            return &rest[..k];
+    let mut space = until(rest, b' ');
+    while space < rest.len() {
+        rest = &rest[space + 1..];
+        space = until(rest, b' ');
+        if is_no_number(&rest[..space], signs) {
+            return &rest[..space];
         }
     }
     &rest[..0]

@@ -15,7 +15,7 @@ ghost use Rattle.algebra.specs.Slice.{written};
 ghost use Rattle.sheet.specs.Reading.{reading};
 ghost use Rattle.sheet.specs.Call.{numberOf, paper, told, rowOnReturn, faultyWord};
 
-// The most weights that a sheet may have.
+// The most weights that a sheet may have, and so the places of the reader's own row.
 const MOST_WEIGHTS: usize = 500;
 
 // Why a sheet is refused.
@@ -81,6 +81,7 @@ pub fn read_sheet(sheet: &[u8], row: &mut [u64]) -> SheetRead
 {
     let mut weights = [0u64; MOST_WEIGHTS];
     let read = read_text(sheet, row.len(), &mut weights);
+    // after a refusal it is 0, and nothing is put
     let count = read.count;
     put(&weights[..count], row);
     read

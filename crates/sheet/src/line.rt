@@ -53,7 +53,8 @@ fn read_keyword(rest: &[u8], keyword: &[u8]) -> Head
     }
 }
 
-// `part` is the rest of a line, which is to be one number.
+// `part` is the rest of a line, which is to be one number. That is tried first, as on every good line; where it fails, a space in the part
+// says that there are words too many.
 fn last_number(part: &[u8], signs: bool) -> Last
     ensures { λ r. ⌜ ((rest : List ℕ) → lastOf r rest ≡ fields signs 1 (now (part .entry)) rest) ⌝ }
 {
@@ -95,6 +96,7 @@ pub fn read_two(rest: &[u8], keyword: &[u8], signs: bool) -> LineRead
             if space == part.len() {
                 return LineRead::Refused(Reason::Form);
             }
+            // the last word first: a wrong count of words (23) goes before a first word that is no number (24)
             match last_number(&part[space + 1..], signs) {
                 Last::Refused(reason) => LineRead::Refused(reason),
                 Last::Value(z) => match number(&part[..space], signs) {

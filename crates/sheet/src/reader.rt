@@ -1,7 +1,8 @@
 // The sheet, line by line: each function reads the line due and goes on with the next. The weights go into a row of the reader's own, since
-// nothing may be written before the last line is known to be good.
+// nothing may be written before the last line is known to be good. With an order of at most 4 the first `W` line is at most line 9.
 
 use super::LineAnswer;
+use super::MOST_WEIGHTS;
 use super::Reason;
 use super::SheetRead;
 use super::line::LineRead;
@@ -22,6 +23,8 @@ ghost use Rattle.sheet.specs.Call.{numberOf, paper, told};
 
 // The most bytes that a sheet may have.
 const MOST_BYTES: u64 = 16384;
+
+const MOST_ORDER: u64 = 4;
 
 // A refusal: its other numbers are 0.
 fn refused(reason: Reason, line: usize) -> SheetRead
@@ -85,7 +88,7 @@ fn read_severity(
         LineRead::Refused(reason) => refused(reason, line),
         LineRead::Numbers(m, _, next) => {
             let count = whole(m);
-            if is_outside(1, 500, count) {
+            if is_outside(1, MOST_WEIGHTS as u64, count) {
                 return refused(Reason::Limit, line);
             }
             if places < count as usize {
@@ -178,7 +181,7 @@ fn read_law(rest: &[u8], places: usize, weights: &mut [u64]) -> SheetRead
         LineRead::Refused(reason) => refused(reason, 1),
         LineRead::Numbers(k, d, next) => {
             let order = whole(k);
-            if is_outside(1, 4, order) {
+            if is_outside(1, MOST_ORDER, order) {
                 return refused(Reason::Limit, 1);
             }
             read_terms(&rest[next..], places, order, whole(d), weights)

@@ -13,8 +13,7 @@ use Rattle.text.specs.Bytes.{space}
 use Rattle.text.specs.Lines.{before, after, has, words}
 use Rattle.text.specs.Numbers.{number}
 use Rattle.text.proofs.Scan.{until-before, until-after, until-end, until-found, words-split}
-use Rattle.sheet.specs.Line.{isNone}
-use Rattle.sheet.specs.Call.{firstNoNumber, numberWords}
+use Rattle.sheet.specs.Call.{isNone, firstNoNumber, numberWords}
 use Rattle.sheet.proofs.fault.first_no_number.Statement.{statement}
 use Rattle.sheet.proofs.fault.first_no_number.Tie as tie
 
@@ -61,7 +60,7 @@ module _ (c : tie.After-until2 Inv-loop μ-loop) where
   rest = loop-at .loop .rest .now
 
   abbrev k : ℕ
-  k = loop-at .loop .k
+  k = loop-at .loop .space
 
   abbrev next : List ℕ
   next = take (length rest - (k + 1)) (drop (k + 1) rest)
@@ -94,7 +93,7 @@ unfolding firstNoNumber
 returns-2 c =
     let at = c .before .before in
     let rest = at .loop .rest .now in
-    let alone = until-end space rest (at .loop .k) (at .loop .inv .0) (omega arith) in
+    let alone = until-end space rest (at .loop .space) (at .loop .inv .0) (omega arith) in
     sym (at .loop .inv .3 ∙ ap (firstNoNumber _) (words-by rest false alone))
 
 loop-again : tie.Need-loop-again Inv-loop μ-loop
