@@ -1,8 +1,10 @@
 """Sets the calls in crates/cases/specs/Cases.antt beside outward.py and sheet.py, and the lows and highs of curves beside the exact amounts
-of exact.py. Every row must be known here, and agree."""
+of exact.py. Every row must be known here, and agree. What the table's words stand for (the lent rows, the open lines of the paper's sheet) is
+written here once more."""
 import pathlib
 import re
 import sys
+from collections import Counter
 from fractions import Fraction
 from typing import NamedTuple
 
@@ -11,6 +13,7 @@ from outward import Job, Lent, curve
 from sheet import NO_JOB, read_sheet
 
 MARK = 7
+ROW = [MARK] * 3
 
 
 class Curve(NamedTuple):
@@ -22,8 +25,7 @@ class Curve(NamedTuple):
 
 class Sheet(NamedTuple):
     """A row on the sheet reader."""
-    sheet: bytes
-    places: list
+    text: bytes
     answer: tuple
     job: Job
     after: list
@@ -56,13 +58,13 @@ def sheet(line2, line6):
     return f"LAW 1 1\n{line2}\nSTART 367879441 367879442\nLAST 3\nSEVERITY 2\n{line6}\nW 1\n".encode()
 
 
-def acceptance(read, job, weights, after):
+def acceptance(text, job, weights, after):
     law, start, X = job
-    return Sheet(read, [MARK] * 3, (0, 0), Job(*law, *start, weights, X), after, b"")
+    return Sheet(text, (0, 0), Job(*law, *start, weights, X), after, b"")
 
 
-def refusal(read, number, line, word):
-    return Sheet(read, [MARK] * 3, (number, line), NO_JOB, [MARK] * 3, word.encode())
+def refusal(text, number, line, word):
+    return Sheet(text, (number, line), NO_JOB, ROW, word.encode())
 
 
 # the words of the table, besides the names that the file defines without parameters
@@ -138,9 +140,9 @@ def curve_differences(row):
 
 
 def sheet_differences(row):
-    found = read_sheet(row.sheet, len(row.places))
+    found = read_sheet(row.text, len(ROW))
     weights = found.job.weights
-    told = (found.number, found.line), found.job, weights + row.places[len(weights):], found.word
+    told = (found.number, found.line), found.job, weights + ROW[len(weights):], found.word
     if told != (row.answer, row.job, row.after, row.word):
         yield f"the table has {row}, the calculator {told}"
 
@@ -177,7 +179,8 @@ def main():
             print(f"row {number}: {fault}")
     accepted = sum(isinstance(row, Curve) and row.answer == (0, 0) for row in rows)
     print(f"the paper's cases: {len(rows)} rows set beside the calculator, {accepted} of them with exact amounts, {wrong} differ")
-    if wrong or len(rows) < 10:
+    kinds = Counter(map(type, rows))
+    if wrong or kinds[Curve] < 13 or kinds[Sheet] < 5:
         sys.exit(1)
 
 

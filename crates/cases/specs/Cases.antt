@@ -15,7 +15,7 @@ use Rattle.model.specs.declared.Job.{Job}
 use Rattle.model.specs.Answer.{Answer, accepted, refused}
 use Rattle.compound.specs.Call.{Lent, lentRows, curveAnswer, curveLent}
 use Rattle.text.specs.Bytes.{ascii}
-use Rattle.sheet.specs.Reading.{reads, refuses, reading}
+use Rattle.sheet.specs.Reading.{reading}
 use Rattle.sheet.specs.Call.{Told, told, rowOnReturn, faultyWord}
 
 -- a call of the tool and what the paper says of it
@@ -80,11 +80,14 @@ places = 7 ∷ 7 ∷ 7 ∷ []
 
 -- "An acceptance writes the first m places and no others.", and hands back an empty part
 abbrev acceptance : (s : List ℕ) (job : Job) (weights after : List ℕ) → Case
-acceptance s job weights after = reader s places (told (reads (record { job = job; weights = weights }))) after []
+acceptance s job weights after =
+    reader s places (record { answer = accepted; job = job; count = length weights; weights = weights }) after []
 
 -- "A refusal writes nothing.", and its other numbers are 0
 abbrev refusal : (s : List ℕ) (number line : ℕ) (word : String) → Case
-refusal s number line word = reader s places (told (refuses number line)) places (ascii word)
+refusal s number line word =
+    reader s places (record { answer = refused number line; job = job (law 0 0 [] []) (start 0 0) 0; count = 0; weights = [] }) places
+    (ascii word)
 
 -- ---- the table of cases
 abbrev call : (job : Job) (weights : List ℕ) (answer : Answer) (after : ℕ → Lent) → Case

@@ -13,7 +13,7 @@ ghost use Prim.Native.Nat.{_≤_, _<_};
 const PLACES: usize = 512;
 
 // What each place holds before the call. No weight is as large.
-const MARK: u64 = 18446744073709551615;
+const MARK: u64 = u64::MAX;
 
 fn print(n: u64) {
     io::print_decimal(1, n);
@@ -29,7 +29,7 @@ fn size(z: i64) -> u64 {
     if z < 0 { (-1 - z) as u64 + 1 } else { z as u64 }
 }
 
-fn print_signed(z: i64) {
+fn print_next_signed(z: i64) {
     io::write_all(1, b" ");
     if z < 0 {
         io::write_all(1, b"-");
@@ -54,10 +54,10 @@ fn show_answer(answer: LineAnswer) {
 }
 
 fn show_terms(terms: [i64; 4]) {
-    print_signed(terms[0]);
-    print_signed(terms[1]);
-    print_signed(terms[2]);
-    print_signed(terms[3]);
+    print_next_signed(terms[0]);
+    print_next_signed(terms[1]);
+    print_next_signed(terms[2]);
+    print_next_signed(terms[3]);
 }
 
 fn show_law(law: Law) {
@@ -117,14 +117,14 @@ fn show_word(word: &[u8]) {
     }
 }
 
-fn least(a: usize, b: usize) -> usize
+fn smaller(a: usize, b: usize) -> usize
     ensures { λ r. ⌜ r ≤ b ⌝ }
 {
     if a < b { a } else { b }
 }
 
 fn run_case(bytes: &[u8], row: &mut [u64], places: usize) {
-    let n = least(places, row.len());
+    let n = smaller(places, row.len());
     show_read(sheet::read_sheet(bytes, &mut row[..n]));
     show_row(row);
     io::write_all(1, b";");
@@ -134,7 +134,7 @@ fn run_case(bytes: &[u8], row: &mut [u64], places: usize) {
 
 // Reads a sheet of `size` bytes by way of `space`, and runs it; false where the input ends before it does.
 fn read_case(space: &mut [u8], size: usize, places: usize) -> bool {
-    let n = least(size, space.len());
+    let n = smaller(size, space.len());
     let got = io::read_full(0, &mut space[..n]);
     if got < n {
         return false;

@@ -12,12 +12,13 @@ PAPER = [b"LAW 1 1", b"TERM 0 1", b"START 367879441 367879442", b"LAST 3", b"SEV
 
 
 class Case(NamedTuple):
-    """What is tried, the number and line that the paper asks for, the sheet, and the row's number of places."""
+    """What is tried, the number and line that the paper asks for, the sheet, the row's number of places, and the faulty word."""
     name: str
     number: int
     line: int
     sheet: bytes
     places: int = 4
+    word: bytes = b""
 
 
 def text(lines, end=b"\n"):
@@ -57,8 +58,8 @@ def padded(size):
 CASES = [
     # the paper's own
     Case("the paper's sheet", 0, 0, GOOD, 2),
-    Case("P11", 24, 6, paper({6: b"W 10n5"})),
-    Case("P12", 24, 2, paper({2: b"TERM -0 1"})),
+    Case("P11", 24, 6, paper({6: b"W 10n5"}), word=b"10n5"),
+    Case("P12", 24, 2, paper({2: b"TERM -0 1"}), word=b"-0"),
     Case("two spaces", 23, 6, paper({6: b"W  1"})),
     Case("a space at the end of START", 24, 3, paper({3: b"START 1 "})),
     Case("bytes after the last line, with a line end", 26, 8, GOOD + b"W 1\n"),
@@ -85,7 +86,9 @@ CASES = [
     # 22
     Case("no last line end", 22, 7, GOOD[:-1]),
     Case("no last line", 22, 7, text(PAPER[:-1])),
+    Case("no line after LAW", 22, 2, text(PAPER[:1])),
     Case("no line after LAST", 22, 5, text(PAPER[:4])),
+    Case("a weight less than m", 22, 508, weights(499, 500), 500),
     Case("no line end, and a word that is no number", 22, 6, text(PAPER[:5]) + b"W x"),
     Case("no line end, and a wrong keyword", 22, 2, b"LAW 1 1\nTERMS 0 1"),
     Case("no line end, and k 5", 22, 1, b"LAW 5 1"),
@@ -94,11 +97,9 @@ CASES = [
     # 23
     Case("a line end alone", 23, 1, b"\n"),
     Case("an empty line", 23, 4, text(PAPER[:3] + [b""] + PAPER[3:])),
-    Case("LAW doubled", 23, 2, text(PAPER[:1] + PAPER)),
-    Case("TERM doubled", 23, 3, text(PAPER[:2] + PAPER[1:])),
-    Case("no TERM", 23, 2, text(PAPER[:1] + PAPER[2:])),
-    Case("no START", 23, 3, text(PAPER[:2] + PAPER[3:])),
-    Case("no SEVERITY", 23, 5, text(PAPER[:4] + PAPER[5:])),
+    *[Case(f"line {n} doubled", 23, n + 1, text(PAPER[:n] + PAPER[n - 1:])) for n in range(1, 6)],
+    *[Case(f"line {n} left out", 23, n, text(PAPER[:n - 1] + PAPER[n:])) for n in range(1, 6)],
+    Case("a TERM less than k", 23, 3, paper({1: b"LAW 2 1"})),
     Case("small letters", 23, 1, paper({1: b"law 1 1"})),
     Case("a longer keyword", 23, 1, paper({1: b"LAWS 1 1"})),
     Case("a shorter keyword", 23, 5, paper({5: b"SEVERIT 2"})),
@@ -108,39 +109,47 @@ CASES = [
     Case("a space at the end of a whole line", 23, 2, paper({2: b"TERM 0 1 "})),
     Case("a word too many, and one that is no number", 23, 6, paper({6: b"W x 1"})),
     Case("a word too few, and one that is no number", 23, 1, paper({1: b"LAW x"})),
+    Case("byte 00 after a keyword", 23, 7, last(b"W\x00 1")),
     Case("a tab between words", 23, 6, paper({6: b"W\t1"})),
     Case("the mark of UTF-8 in front", 23, 1, b"\xef\xbb\xbf" + GOOD),
 
     # 24
-    Case("0D before the line end", 24, 1, text(PAPER, b"\r\n")),
+    Case("0D before the line end", 24, 1, text(PAPER, b"\r\n"), word=b"1\r"),
     Case("a space at the end of LAST", 24, 4, paper({4: b"LAST "})),
-    Case("a tab after a number", 24, 7, last(b"W 1\t")),
-    Case("a plus sign", 24, 2, paper({2: b"TERM +1 1"})),
-    Case("two zeros", 24, 7, last(b"W 00")),
-    Case("a leading zero", 24, 1, paper({1: b"LAW 1 01"})),
-    Case("a minus sign before two zeros", 24, 2, paper({2: b"TERM -00 1"})),
-    Case("a minus sign before a leading zero, after a negative number", 24, 2, paper({2: b"TERM -1 -01"})),
-    Case("two minus signs", 24, 2, paper({2: b"TERM --1 1"})),
-    Case("a minus sign alone", 24, 2, paper({2: b"TERM 1 -"})),
-    Case("a minus sign in LAW", 24, 1, paper({1: b"LAW -1 1"})),
-    Case("a minus sign in START", 24, 3, paper({3: b"START 1 -1"})),
-    Case("a minus sign in LAST", 24, 4, paper({4: b"LAST -3"})),
-    Case("a minus sign in SEVERITY", 24, 5, paper({5: b"SEVERITY -2"})),
-    Case("a minus sign in W", 24, 7, last(b"W -1")),
-    Case("11 digits", 24, 7, last(b"W 10000000000")),
-    Case("11 digits after a minus sign", 24, 2, paper({2: b"TERM -10000000000 1"})),
-    Case("11 digits for k", 24, 1, paper({1: b"LAW 10000000000 1"})),
-    Case("100 digits", 24, 7, last(b"W " + b"9" * 100)),
-    Case("two faulty words", 24, 2, paper({2: b"TERM 0x -0"})),
-    Case("k 5 and a faulty D", 24, 1, paper({1: b"LAW 5 x"})),
-    Case("the byte before the digits", 24, 7, last(b"W 1/")),
-    Case("the byte after the digits", 24, 7, last(b"W :")),
-    Case("a hexadecimal digit", 24, 7, last(b"W a")),
-    Case("a low line between digits", 24, 7, last(b"W 1_0")),
-    Case("byte 00", 24, 7, last(b"W 1\x00")),
-    Case("byte FF", 24, 2, paper({2: b"TERM \xff 1"})),
-    Case("a full-width digit", 24, 7, last("W \uff11".encode())),
-    Case("another script's digit", 24, 7, last("W \u0661".encode())),
+    Case("a tab after a number", 24, 7, last(b"W 1\t"), word=b"1\t"),
+    Case("a plus sign", 24, 2, paper({2: b"TERM +1 1"}), word=b"+1"),
+    Case("two zeros", 24, 7, last(b"W 00"), word=b"00"),
+    Case("a leading zero", 24, 1, paper({1: b"LAW 1 01"}), word=b"01"),
+    Case("a minus sign before two zeros", 24, 2, paper({2: b"TERM -00 1"}), word=b"-00"),
+    Case("a minus sign before a leading zero, after a negative number", 24, 2, paper({2: b"TERM -1 -01"}), word=b"-01"),
+    Case("two minus signs", 24, 2, paper({2: b"TERM --1 1"}), word=b"--1"),
+    Case("a minus sign alone", 24, 2, paper({2: b"TERM 1 -"}), word=b"-"),
+    Case("a minus sign in k", 24, 1, paper({1: b"LAW -1 1"}), word=b"-1"),
+    Case("a minus sign in D", 24, 1, paper({1: b"LAW 1 -1"}), word=b"-1"),
+    Case("a minus sign in s", 24, 3, paper({3: b"START -1 1"}), word=b"-1"),
+    Case("a minus sign in t", 24, 3, paper({3: b"START 1 -1"}), word=b"-1"),
+    Case("a minus sign in LAST", 24, 4, paper({4: b"LAST -3"}), word=b"-3"),
+    Case("a minus sign in SEVERITY", 24, 5, paper({5: b"SEVERITY -2"}), word=b"-2"),
+    Case("a minus sign in W", 24, 7, last(b"W -1"), word=b"-1"),
+    Case("11 digits", 24, 7, last(b"W 10000000000"), word=b"10000000000"),
+    Case("11 digits after a minus sign", 24, 2, paper({2: b"TERM -10000000000 1"}), word=b"-10000000000"),
+    Case("11 digits for k", 24, 1, paper({1: b"LAW 10000000000 1"}), word=b"10000000000"),
+    Case("100 digits", 24, 7, last(b"W " + b"9" * 100), word=b"9" * 100),
+    Case("two faulty words", 24, 2, paper({2: b"TERM 0x -0"}), word=b"0x"),
+    Case("an empty word and one that is no number", 24, 2, paper({2: b"TERM  x"})),
+    Case("two spaces in START", 24, 3, paper({3: b"START  1"})),
+    Case("faulty words on two lines", 24, 2, paper({2: b"TERM x 1", 6: b"W y"}), word=b"x"),
+    Case("a faulty third TERM", 24, 4, terms(b"TERM 1 2", b"TERM 3 4", b"TERM 5 -0"), word=b"-0"),
+    Case("a faulty last weight of 500", 24, 508, weights(499, 500) + b"W -1\n", 500, b"-1"),
+    Case("k 5 and a faulty D", 24, 1, paper({1: b"LAW 5 x"}), word=b"x"),
+    Case("the byte before the digits", 24, 7, last(b"W 1/"), word=b"1/"),
+    Case("the byte after the digits", 24, 7, last(b"W :"), word=b":"),
+    Case("a hexadecimal digit", 24, 7, last(b"W a"), word=b"a"),
+    Case("a low line between digits", 24, 7, last(b"W 1_0"), word=b"1_0"),
+    Case("byte 00", 24, 7, last(b"W 1\x00"), word=b"1\x00"),
+    Case("byte FF", 24, 2, paper({2: b"TERM \xff 1"}), word=b"\xff"),
+    Case("a full-width digit", 24, 7, last("W \uff11".encode()), word="\uff11".encode()),
+    Case("another script's digit", 24, 7, last("W \u0661".encode()), word="\u0661".encode()),
 
     # 25
     Case("k 0", 25, 1, paper({1: b"LAW 0 1"})),
@@ -185,15 +194,18 @@ def stored(name):
 def differences(case, line):
     """Where the case's own answer or the stored line is not the calculator's."""
     read = read_sheet(case.sheet, case.places)
-    if (read.number, read.line) != (case.number, case.line):
-        yield f"the case asks for {case.number} at {case.line}, the calculator says {read.number} at {read.line}"
+    asked, said = (case.number, case.line, case.word), (read.number, read.line, read.word)
+    if asked != said:
+        yield f"the case asks for {asked}, the calculator says {said}"
     if line != answer(case):
         yield f"stdout has {line!r:.200}, the calculator {answer(case)!r:.200}"
 
 
 def main():
     records = b"".join(map(record, CASES))
-    if sys.argv[1:] == ["--write"]:
+    if sys.argv[1:] not in ([], ["--write"]):
+        sys.exit(f"usage: {sys.argv[0]} [--write]")
+    if sys.argv[1:]:
         (FOLDER / "stdin").write_bytes(records)
         (FOLDER / "stdout").write_bytes(b"".join(map(answer, CASES)))
     lines = stored("stdout").splitlines(keepends=True)
