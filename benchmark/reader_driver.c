@@ -84,13 +84,17 @@ static void compare_all(void) {
     for (int order = 1; order <= 4; order++) {
         make_good(order);
         compare();
-        if (proved.said.number != 0) exit(1);
+        if (proved.said.number != 0) {
+            puts("the good sheet is refused");
+            exit(1);
+        }
         for (size_t n = length, at = 0; at <= n; at++) compare_damaged(n, at);
     }
     make_good(1);
     for (length = TOO_LONG - 1; length <= TOO_LONG; length++) compare();
     make_good(1);
     for (places = 0; places < PLACES; places++) compare();
+    places = PLACES;
 }
 
 int main(int argc, char **argv) {
