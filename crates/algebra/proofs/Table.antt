@@ -1,7 +1,7 @@
 -- A test that passes at every row passes at any row, by the row's place in the table; tests of equality, by cases on what they compare.
 use mathlib.Core.Path.{_≡_, refl, sym, ap, subst}
-use mathlib.Core.Bool.{Bool, true, false, _&&_}
-use mathlib.Core.List.{List, [], _∷_, List·Memᴰ·not-nil, List·Memᴰ·cases-cons}
+use mathlib.Core.Bool.{Bool, true, false, _&&_, and-eq-true-iff}
+use mathlib.Core.List.{List, [], _∷_, _++_, List·Memᴰ·not-nil, List·Memᴰ·cases-cons}
 use mathlib.Core.Logic.{⊎-elim}
 use lib.Dec.{T, eqb→eq}
 use lib.IntN.{pos, negsuc}
@@ -21,6 +21,12 @@ each-passes A test (d ∷ ds) t c m = ⊎-elim
     (λ e. subst (λ x. T (test x)) (sym e) (and-left (test d) (every test ds) t))
     (λ k. each-passes A test ds (and-right (test d) (every test ds) t) c k)
     (List·Memᴰ·cases-cons m)
+
+pub every-append : (A : Type 0) (test : A → Bool) (s t : List A) → every test s ≡ true → every test t ≡ true → every test (s ++ t) ≡ true
+every-append A test [] t e h = h
+every-append A test (x ∷ s) t e h =
+    let k = and-eq-true-iff (test x) (every test s) .0 e in
+    rw (k .0) (every-append A test s t (k .1) h)
 
 pub same-integer : SameInteger
 same-integer (pos m) (pos n) t = ap pos (eqb→eq m n t)

@@ -13,7 +13,7 @@ use Rattle.algebra.specs.Table.{sameList}
 use Rattle.algebra.proofs.Table.{same-list}
 use Rattle.text.specs.Bytes.{lineEnd}
 use Rattle.text.specs.Lines.{before, after, has, words}
-use Rattle.text.specs.Numbers.{decimal, number, TenDigits, signFits}
+use Rattle.text.specs.Numbers.{decimal, number, AtMostTenDigits, signFits}
 use Rattle.text.proofs.Words.{split-at-first, words-joined}
 use Rattle.text.proofs.Decimal.{number-is-decimal}
 use Rattle.sheet.specs.Sheet.{TERM, lineText}
@@ -26,7 +26,7 @@ use Rattle.sheet.specs.Accepts.{FirstFaulty}
 -- words that are numbers are their decimal texts
 record AreNumbers (signs : Bool) (ws : List (List ℕ)) (zs : List ℤ) : Type 0 where
   written : ws ≡ map decimal zs
-  small : (i : ℕ) → TenDigits (getD zs i (pos 0))
+  small : (i : ℕ) → AtMostTenDigits (getD zs i (pos 0))
   fit : (i : ℕ) → signFits signs (getD zs i (pos 0)) ≡ true
 
 -- either is found
@@ -64,7 +64,7 @@ pub record Parsed (signs : Bool) (keyword : List ℕ) (count : ℕ) (s : List �
   pub text : s ≡ lineText keyword zs ++ rest
   pub next : after lineEnd s ≡ rest
   pub counted : length zs ≡ count
-  pub small : (i : ℕ) → TenDigits (getD zs i (pos 0))
+  pub small : (i : ℕ) → AtMostTenDigits (getD zs i (pos 0))
   pub fit : (i : ℕ) → signFits signs (getD zs i (pos 0)) ≡ true
 
 -- and one that is refused by 24 has a first faulty word, if `signs` says what its keyword says

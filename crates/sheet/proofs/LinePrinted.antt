@@ -14,7 +14,7 @@ use Rattle.algebra.specs.Table.{every}
 use Rattle.algebra.proofs.Table.{same-itself}
 use Rattle.text.specs.Bytes.{lineEnd, space}
 use Rattle.text.specs.Lines.{has, spaced}
-use Rattle.text.specs.Numbers.{TenDigits, signFits, decimal}
+use Rattle.text.specs.Numbers.{AtMostTenDigits, signFits, decimal}
 use Rattle.text.proofs.Words.{has-append, first-after, words-of-joined}
 use Rattle.text.proofs.Decimal.{decimal-plain, decimal-length, decimal-is-number}
 use Rattle.sheet.specs.Sheet.{lineText}
@@ -23,19 +23,19 @@ use Rattle.sheet.specs.Line.{numbers, allNumbers, line}
 -- ---- numbers that a line can hold: at most 10 digits each, and a sign only where it may be
 pub data Held (signs : Bool) : List ℤ → Type 0 where
   none : Held signs []
-  more : {z : ℤ} {zs : List ℤ} → TenDigits z → signFits signs z ≡ true → Held signs zs → Held signs (z ∷ zs)
+  more : {z : ℤ} {zs : List ℤ} → AtMostTenDigits z → signFits signs z ≡ true → Held signs zs → Held signs (z ∷ zs)
 
-pub one : {n : ℕ} → TenDigits (pos n) → Held false (pos n ∷ [])
+pub one : {n : ℕ} → AtMostTenDigits (pos n) → Held false (pos n ∷ [])
 one d = more d refl none
 
-pub two : {m n : ℕ} → TenDigits (pos m) → TenDigits (pos n) → Held false (pos m ∷ pos n ∷ [])
+pub two : {m n : ℕ} → AtMostTenDigits (pos m) → AtMostTenDigits (pos n) → Held false (pos m ∷ pos n ∷ [])
 two c d = more c refl (one d)
 
 any-sign : (z : ℤ) → signFits true z ≡ true
 any-sign (pos n) = refl
 any-sign (negsuc n) = refl
 
-pub two-signed : (y z : ℤ) → TenDigits y → TenDigits z → Held true (y ∷ z ∷ [])
+pub two-signed : (y z : ℤ) → AtMostTenDigits y → AtMostTenDigits z → Held true (y ∷ z ∷ [])
 two-signed y z c d = more c (any-sign y) (more d (any-sign z) none)
 
 -- ---- the numbers of a line

@@ -20,7 +20,8 @@ use Rattle.model.specs.Answer.{outside}
 use Rattle.model.proofs.Answer.{within}
 use Rattle.text.specs.Bytes.{lineEnd}
 use Rattle.text.specs.Lines.{after, afterLines, lineAt}
-use Rattle.text.specs.Numbers.{TenDigits}
+use Rattle.text.specs.Numbers.{AtMostTenDigits}
+use Rattle.text.proofs.Scan.{lines-last}
 use Rattle.sheet.specs.Sheet.{LAW, TERM, START, LAST, SEVERITY, W, lineText, termsText, weightsText, sheetText}
 use Rattle.sheet.specs.Line.{Line, numbers, faulty, line}
 use Rattle.sheet.specs.Reading.{Reading, reads, refuses, on, signed, whole, noTerms, withTerm, startOf, jobOf, sheetOf}
@@ -34,17 +35,17 @@ use Rattle.sheet.proofs.LineParsed.{Parsed, LineFacts, line-facts, pair
 record LawFits (law : Law) (i : ℕ) : Type 0 where
   order-least : 1 ≤ law .order
   order-most : law .order ≤ 4
-  divisor : TenDigits (pos (law .divisor))
+  divisor : AtMostTenDigits (pos (law .divisor))
   a : Terms i (law .a)
   b : Terms i (law .b)
 
 record JobFits (job : Job) : Type 0 where
   law : LawFits (job .law) (job .law .order)
-  low : TenDigits (pos (job .start .low))
-  high : TenDigits (pos (job .start .high))
-  last : TenDigits (pos (job .last))
+  low : AtMostTenDigits (pos (job .start .low))
+  high : AtMostTenDigits (pos (job .start .high))
+  last : AtMostTenDigits (pos (job .last))
 
-writable : (job : Job) (ws : List ℕ) → JobFits job → 1 ≤ length ws → length ws ≤ 500 → ((i : ℕ) → TenDigits (pos (getD ws i 0)))
+writable : (job : Job) (ws : List ℕ) → JobFits job → 1 ≤ length ws → length ws ≤ 500 → ((i : ℕ) → AtMostTenDigits (pos (getD ws i 0)))
     → Writable (sheetOf job ws)
 writable job ws fits least most small = record {
   order-least = fits .law .order-least;
@@ -86,19 +87,19 @@ zeros (suc n) (suc i) = zeros n i
 no-terms : Terms 0 (replicate 4 (pos 0))
 no-terms = record { four = refl; past = λ i _. zeros 4 i; small = λ i. rw (zeros 4 i) (lit< tt) }
 
-term-next : (i : ℕ) (terms : List ℤ) (z : ℤ) → i < 4 → TenDigits z → Terms i terms → Terms (i + 1) (set terms i z)
+term-next : (i : ℕ) (terms : List ℤ) (z : ℤ) → i < 4 → AtMostTenDigits z → Terms i terms → Terms (i + 1) (set terms i z)
 term-next i terms z h small t = record {
   four = length-set terms i z ∙ t .four;
   past = λ j l. getD-set-other terms i j z (pos 0) (omega arith) ∙ t .past j (omega arith);
   small = λ j. by j (ℕ-discrete j i);
 }
   where
-    by : (j : ℕ) → Dec (j ≡ i) → TenDigits (getD (set terms i z) j (pos 0))
+    by : (j : ℕ) → Dec (j ≡ i) → AtMostTenDigits (getD (set terms i z) j (pos 0))
     by j (yes e) = rw (e, getD-set-same terms i z (pos 0) (omega (arith, t .four))) small
     by j (no d) = rw (getD-set-other terms i j z (pos 0) d) (t .small j)
 
 module _ (law : Law) (i : ℕ) (x y : ℤ) (fits : LawFits law i) (h : i < 4) where
-  law-next : TenDigits x → TenDigits y → LawFits (withTerm law i x y) (i + 1)
+  law-next : AtMostTenDigits x → AtMostTenDigits y → LawFits (withTerm law i x y) (i + 1)
   law-next x-small y-small = record {
     order-least = fits .order-least;
     order-most = fits .order-most;
@@ -135,20 +136,14 @@ weights-next (v ∷ ws) w =
 table-text : (job : Job) (m : ℕ) (ws : List ℕ) (w : ℕ) → tableText job m ws ++ lineText W (pos w ∷ []) ≡ tableText job m (ws ++ (w ∷ []))
 table-text job m ws w = rw (append-assoc (jobText job ++ lineText SEVERITY (pos m ∷ [])), weights-next ws w)
 
-weight-small : (ws : List ℕ) (w : ℕ) → TenDigits (pos w) → ((i : ℕ) → TenDigits (pos (getD ws i 0)))
-    → (i : ℕ) → TenDigits (pos (getD (ws ++ (w ∷ [])) i 0))
+weight-small : (ws : List ℕ) (w : ℕ) → AtMostTenDigits (pos w) → ((i : ℕ) → AtMostTenDigits (pos (getD ws i 0)))
+    → (i : ℕ) → AtMostTenDigits (pos (getD (ws ++ (w ∷ [])) i 0))
 weight-small [] w h small zero = h
 weight-small [] w h small (suc i) = lit< tt
 weight-small (v ∷ ws) w h small zero = small 0
 weight-small (v ∷ ws) w h small (suc i) = weight-small ws w h (λ j. small (suc j)) i
 
 -- ---- one line more
--- `afterLines` goes from the front: the last step is one too
-lines-next : (n : ℕ) (s : List ℕ) → afterLines (suc n) s ≡ after lineEnd (afterLines n s)
-unfolding afterLines
-lines-next zero s = refl
-lines-next (suc n) s = lines-next n (after lineEnd s)
-
 module _ (places : ℕ) (all : List ℕ) where
   -- what is to be shown of the reading of a whole sheet
   abbrev Right : Reading → Type 0
@@ -176,7 +171,7 @@ module _ (places : ℕ) (all : List ℕ) where
             right zs rest p (record {
               from-one = omega arith;
               split = here .split ∙ ap (λ (l : List ℕ). done ++ l) (p .text) ∙ sym (append-assoc done (lineText keyword zs) rest);
-              reached = ap (λ (k : ℕ). afterLines k all) (omega arith) ∙ lines-next (n - 1) all
+              reached = ap (λ (k : ℕ). afterLines k all) (omega arith) ∙ lines-last (n - 1) all
                   ∙ ap (after lineEnd) (here .reached) ∙ p .next;
             })
         by (faulty reason) f = λ e. rw (here .reached) (f e same)
@@ -188,7 +183,7 @@ module _ (places : ℕ) (all : List ℕ) where
 
   -- ---- the lines, from the last kind to the first
   module _ (job : Job) (m : ℕ) (fits : JobFits job) (least : 1 ≤ m) (most : m ≤ 500) (room : m ≤ places) where
-    weights : (ws : List ℕ) (due n : ℕ) (s : List ℕ) → length ws + due ≡ m → ((i : ℕ) → TenDigits (pos (getD ws i 0)))
+    weights : (ws : List ℕ) (due n : ℕ) (s : List ℕ) → length ws + due ≡ m → ((i : ℕ) → AtMostTenDigits (pos (getD ws i 0)))
         → Stands n (tableText job m ws) s → Right (weightLines job ws due n s)
     unfolding weightLines
     weights ws zero n [] e small here =
@@ -212,7 +207,7 @@ module _ (places : ℕ) (all : List ℕ) where
       (rw append-nil (rw (one-whole p) at there))
 
   last : (law : Law) (start : Start) (n : ℕ) (s : List ℕ) → LawFits law (law .order)
-      → TenDigits (pos (start .low)) → TenDigits (pos (start .high)) → Stands n (startText law start) s
+      → AtMostTenDigits (pos (start .low)) → AtMostTenDigits (pos (start .high)) → Stands n (startText law start) s
       → Right (lastLine places law start n s)
   unfolding lastLine
   last law start n s fits low high here = goes-on false LAST 1 _ refl here λ zs rest p there.

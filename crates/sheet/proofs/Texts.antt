@@ -13,7 +13,7 @@ use Rattle.model.specs.declared.Law.{Law}
 use Rattle.model.specs.declared.Job.{Job}
 use Rattle.model.proofs.Answer.{inside}
 use Rattle.text.specs.Lines.{has}
-use Rattle.text.specs.Numbers.{TenDigits}
+use Rattle.text.specs.Numbers.{AtMostTenDigits}
 use Rattle.sheet.specs.Sheet.{Sheet, LAW, TERM, START, LAST, SEVERITY, W, lineText, termsText, weightsText, sheetText}
 use Rattle.sheet.specs.Reading.{reads, noTerms, sheetOf, weightLines, severityLine, lastLine, startLine, termLines, lawLine, reading}
 use Rattle.sheet.specs.Accepts.{Terms, Writable, TakesAllTexts, TextsFit}
@@ -77,7 +77,7 @@ module _ (law : Law) (a : Terms (law .order) (law .a)) (b : Terms (law .order) (
   terms-length i (suc due) = simp length-append (omega (arith, line-length TERM (term-held i), terms-length (suc i) due))
 
 -- ---- the lines of weights, after those of ws
-weights-read : (job : Job) (ws more : List ℕ) (n : ℕ) → ((i : ℕ) → TenDigits (pos (getD more i 0)))
+weights-read : (job : Job) (ws more : List ℕ) (n : ℕ) → ((i : ℕ) → AtMostTenDigits (pos (getD more i 0)))
     → weightLines job ws (length more) n (weightsText more) ≡ reads (sheetOf job (ws ++ more))
 unfolding weightLines weightsText has
 weights-read job ws [] n small = rw append-nil
@@ -85,7 +85,7 @@ weights-read job ws (w ∷ more) n small =
     rw (line-printed W (one (small 0)) refl refl)
     (weights-read job (ws ++ (w ∷ [])) more (n + 1) (λ i. small (suc i)) ∙ rw append-assoc)
 
-weights-length : (ws : List ℕ) → ((i : ℕ) → TenDigits (pos (getD ws i 0))) → length (weightsText ws) ≤ 14 * length ws
+weights-length : (ws : List ℕ) → ((i : ℕ) → AtMostTenDigits (pos (getD ws i 0))) → length (weightsText ws) ≤ 14 * length ws
 unfolding weightsText
 weights-length [] small = omega arith
 weights-length (w ∷ ws) small =

@@ -8,7 +8,7 @@ use Prim.Native.Nat.{ℕ, _≤_}
 use lib.IntN.{ℤ, pos}
 use lib.ListN.{length, getD}
 use Rattle.text.specs.Lines.{lineAt}
-use Rattle.text.specs.Numbers.{TenDigits, number}
+use Rattle.text.specs.Numbers.{AtMostTenDigits, number}
 use Rattle.sheet.specs.Sheet.{Sheet, sheetText}
 use Rattle.sheet.specs.Line.{allNumbers}
 use Rattle.sheet.specs.Reading.{reads, refuses, reading}
@@ -18,21 +18,21 @@ use Rattle.sheet.specs.Call.{numberWords, signsOn, faultyWord}
 pub record Terms (order : ℕ) (terms : List ℤ) : Type 0 where
   pub four : length terms ≡ 4
   pub past : (i : ℕ) → order ≤ i → getD terms i (pos 0) ≡ pos 0
-  pub small : (i : ℕ) → TenDigits (getD terms i (pos 0))
+  pub small : (i : ℕ) → AtMostTenDigits (getD terms i (pos 0))
 
 -- the numbers that a sheet can hold: order 1 to 4, 1 to 500 weights, and at most 10 digits each
 pub record Writable (sheet : Sheet) : Type 0 where
   pub order-least : 1 ≤ sheet .job .law .order
   pub order-most : sheet .job .law .order ≤ 4
-  pub divisor : TenDigits (pos (sheet .job .law .divisor))
+  pub divisor : AtMostTenDigits (pos (sheet .job .law .divisor))
   pub a : Terms (sheet .job .law .order) (sheet .job .law .a)
   pub b : Terms (sheet .job .law .order) (sheet .job .law .b)
-  pub low : TenDigits (pos (sheet .job .start .low))
-  pub high : TenDigits (pos (sheet .job .start .high))
-  pub last : TenDigits (pos (sheet .job .last))
+  pub low : AtMostTenDigits (pos (sheet .job .start .low))
+  pub high : AtMostTenDigits (pos (sheet .job .start .high))
+  pub last : AtMostTenDigits (pos (sheet .job .last))
   pub count-least : 1 ≤ length (sheet .weights)
   pub count-most : length (sheet .weights) ≤ 500
-  pub weights : (i : ℕ) → TenDigits (pos (getD (sheet .weights) i 0))
+  pub weights : (i : ℕ) → AtMostTenDigits (pos (getD (sheet .weights) i 0))
 
 -- a sheet that is taken is, byte for byte, the text of the numbers read: nothing is dropped, and no two sheets are read as one
 abbrev pub TakesOnlyTexts : Type 0

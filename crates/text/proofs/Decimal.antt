@@ -1,7 +1,7 @@
 -- A written number reads back, since its last digit is the last that is read. A word that is read is written again, byte after byte: each
 -- byte is the last digit of the number so far.
 use mathlib.Core.Path.{_≡_, refl, sym, ap, _∙_, subst}
-use mathlib.Core.Bool.{Bool, true, false, _&&_, _||_, not, cond, false≢true, or-true, and-false}
+use mathlib.Core.Bool.{Bool, true, false, _&&_, _||_, not, cond, false≢true, or-true, and-false, and-eq-true-iff}
 use mathlib.Core.List.{List, [], _∷_, _++_, append-nil, append-assoc}
 use mathlib.Core.Option.{none, some, Option·some-injective, Option·none-ne-some}
 use Prim.Native.Nat.{ℕ, zero, suc, _+_, _-_, _*_, _/_, _%_, _^_, _≤_, _<_}
@@ -13,9 +13,11 @@ use lib.IntN.{ℤ, pos, negsuc, negℤ}
 use lib.ListN.{length, drop, length-append}
 use Rattle.algebra.specs.Table.{every}
 use Rattle.algebra.proofs.Or.{or-no}
+use Rattle.algebra.proofs.Table.{every-append}
 use Rattle.text.specs.Lines.{has}
-use Rattle.text.specs.Numbers.{zeroDigit, isDigit, minus, startsWith, isNumeral, valueFrom, value, isNegative, number}
-use Rattle.text.specs.Numbers.{digit, digitsWithin, digits, decimal, TenDigits, signFits, NumberIsDecimal, DecimalIsNumber}
+use Rattle.text.specs.Numbers.{zeroDigit, isDigit, minus, startsWith, isNumeral, valueFrom, value, negativeOf, number}
+use Rattle.text.specs.Numbers.{digit, digitsWithin, digits, decimal, AtMostTenDigits, signFits, NumberIsDecimal, DecimalIsNumber}
+use Rattle.text.proofs.Read.{digit-range}
 use Rattle.text.proofs.Words.{has-append}
 
 -- the digits of n have a property where one digit has it for n below 10, and a tenth's digits with one more for the others
@@ -46,15 +48,6 @@ value-digits (suc steps) n = by-size (λ w. value w ≡ n) steps n (λ l. omega 
     ∙ omega (arith, value-digits steps (n / 10)))
 
 -- ---- what is written: digits only, not too many, and no leading zero
-every-append : (s t : List ℕ) → every isDigit s ≡ true → every isDigit t ≡ true → every isDigit (s ++ t) ≡ true
-every-append [] t e h = h
-every-append (b ∷ s) t e h = by (isDigit b) e (λ k. every-append s t k h)
-  where
-    by : (q : Bool) → (q && every isDigit s) ≡ true → (every isDigit s ≡ true → every isDigit (s ++ t) ≡ true)
-        → (q && every isDigit (s ++ t)) ≡ true
-    by true k ih = ih k
-    by false k ih = k
-
 digit-is : (d : ℕ) → d < 10 → every isDigit (digit d) ≡ true
 digit-is d h = rw (le-leb zeroDigit (zeroDigit + d) (omega arith), le-leb (zeroDigit + d) 0x39 (omega arith))
 
@@ -62,7 +55,7 @@ digits-are : (steps n : ℕ) → n < 10 ^ suc steps → every isDigit (digitsWit
 unfolding digitsWithin
 digits-are zero n h = digit-is n h
 digits-are (suc steps) n h = by-size (λ w. every isDigit w ≡ true) steps n (digit-is n)
-    (λ l. every-append (digitsWithin steps (n / 10)) (digit (n % 10))
+    (λ l. every-append _ isDigit (digitsWithin steps (n / 10)) (digit (n % 10))
     (digits-are steps (n / 10) (omega arith)) (digit-is (n % 10) (omega arith)))
 
 -- k + 1 digits are enough below 10 ^ (k + 1), whatever the steps
@@ -73,10 +66,10 @@ length-within (suc steps) zero n h = by-size (λ w. length w ≤ 1) steps n (λ 
 length-within (suc steps) (suc k) n h = by-size (λ w. length w ≤ suc (suc k)) steps n (λ l. omega arith)
     (λ l. simp length-append (omega (arith, length-within steps k (n / 10) (omega arith))))
 
-pub digits-length : (n : ℕ) → n < 10 ^ 10 → length (digits n) ≤ 10
+digits-length : (n : ℕ) → n < 10 ^ 10 → length (digits n) ≤ 10
 digits-length n h = length-within 19 9 n h
 
-pub decimal-length : (z : ℤ) → TenDigits z → length (decimal z) ≤ 11
+pub decimal-length : (z : ℤ) → AtMostTenDigits z → length (decimal z) ≤ 11
 unfolding decimal
 decimal-length (pos n) h = omega (arith, digits-length n h)
 decimal-length (negsuc n) h = omega (arith, digits-length (suc n) h)
@@ -94,7 +87,7 @@ digit-plain : (b : ℕ) → b < zeroDigit → (d : ℕ) → has b (digit d) ≡ 
 unfolding has
 digit-plain b h d = rw (ne-eqb (zeroDigit + d) b (omega arith))
 
-pub digits-plain : (b : ℕ) → b < zeroDigit → (steps n : ℕ) → has b (digitsWithin steps n) ≡ false
+digits-plain : (b : ℕ) → b < zeroDigit → (steps n : ℕ) → has b (digitsWithin steps n) ≡ false
 unfolding digitsWithin
 digits-plain b h zero n = digit-plain b h n
 digits-plain b h (suc steps) n = by-size (λ w. has b w ≡ false) steps n (λ l. digit-plain b h n)
@@ -125,22 +118,15 @@ decimal-is-number false (negsuc n) h e = absurd (false≢true e)
 decimal-is-number true (negsuc n) h e = rw (and-false _, digits-numeral (suc n) h, value-digits 19 (suc n), eqb·suc-zero n)
 
 -- ---- tests that all passed
-both : (p q : Bool) → (p && q) ≡ true → (p ≡ true) × (q ≡ true)
-both true q e = (refl, e)
-both false q e = absurd (false≢true e)
-
 four : (p q r s : Bool) → (p && q && r && s) ≡ true → (p ≡ true) × (q ≡ true) × (r ≡ true) × (s ≡ true)
 four true true true s e = (refl, refl, refl, e)
 four true true false s e = absurd (false≢true e)
 four true false r s e = absurd (false≢true e)
 four false q r s e = absurd (false≢true e)
 
-in-range : (b : ℕ) → isDigit b ≡ true → (zeroDigit ≤ b) × (b ≤ 0x39)
-in-range b e = let t = both (leb zeroDigit b) (leb b 0x39) e in (leb-true zeroDigit b (t .0), leb-true b 0x39 (t .1))
-
 -- ---- what is read is written again
 same-digit : (b : ℕ) → isDigit b ≡ true → digit (b - zeroDigit) ≡ b ∷ []
-same-digit b e = ap (λ (x : ℕ). x ∷ []) (omega (arith, in-range b e))
+same-digit b e = ap (λ (x : ℕ). x ∷ []) (omega (arith, digit-range b e))
 
 digits-small : (steps n : ℕ) → n < 10 → digitsWithin steps n ≡ digit n
 unfolding digitsWithin
@@ -161,11 +147,11 @@ digits-more : (steps n : ℕ) (w : List ℕ) → (0 < length w → 0 < n) → ev
 unfolding valueFrom
 digits-more steps n [] h e = rw (NL.add-zero, append-nil)
 digits-more steps n (b ∷ w) h e =
-    let t = both (isDigit b) (every isDigit w) e in
+    let t = and-eq-true-iff (isDigit b) (every isDigit w) .0 e in
     let above : 0 < n = h (omega arith) in
     ap (λ (k : ℕ). digitsWithin k (valueFrom (n * 10 + (b - zeroDigit)) w)) (omega arith)
     ∙ digits-more (suc steps) (n * 10 + (b - zeroDigit)) w (λ l. omega arith) (t .1)
-    ∙ ap (λ (l : List ℕ). l ++ w) (digits-next steps n (b - zeroDigit) above (omega (arith, in-range b (t .0))))
+    ∙ ap (λ (l : List ℕ). l ++ w) (digits-next steps n (b - zeroDigit) above (omega (arith, digit-range b (t .0))))
     ∙ append-assoc (digitsWithin steps n) (digit (b - zeroDigit)) w
     ∙ ap (λ (l : List ℕ). digitsWithin steps n ++ (l ++ w)) (same-digit b (t .0))
 
@@ -176,8 +162,8 @@ numeral-written (b ∷ w) e =
     let one = eqb (suc (length w)) 1 in
     let other = not (eqb b zeroDigit) in
     let t = four (leb 1 (suc (length w))) (leb (suc (length w)) 10) (one || other) (every isDigit (b ∷ w)) e in
-    let each = both (isDigit b) (every isDigit w) (t .3) in
-    let range = in-range b (each .0) in
+    let each = and-eq-true-iff (isDigit b) (every isDigit w) .0 (t .3) in
+    let range = digit-range b (each .0) in
     let few : suc (length w) ≤ 10 = leb-true (suc (length w)) 10 (t .1) in
     let lead : 0 < length w → other ≡ true = λ l. or-no one other (ne-eqb (suc (length w)) 1 (omega arith)) ∙ t .2 in
     let above : 0 < length w → 0 < b - zeroDigit = λ l. omega (arith, eqb-false b zeroDigit (not-true (eqb b zeroDigit) (lead l))) in
@@ -191,9 +177,9 @@ value-below : (n : ℕ) (w : List ℕ) → every isDigit w ≡ true → valueFro
 unfolding valueFrom
 value-below n [] e = omega arith
 value-below n (b ∷ w) e =
-    let t = both (isDigit b) (every isDigit w) e in
+    let t = and-eq-true-iff (isDigit b) (every isDigit w) .0 e in
     let next = n * 10 + (b - zeroDigit) in
-    let most : suc next ≤ suc n * 10 = omega (arith, in-range b (t .0)) in
+    let most : suc next ≤ suc n * 10 = omega (arith, digit-range b (t .0)) in
     rw (NL.pow-suc 10 (length w)) (omega (arith, value-below next w (t .1), NL.mul-le-mul-right (10 ^ length w) most))
 
 numeral-below : (w : List ℕ) → isNumeral w ≡ true → value w < 10 ^ 10
@@ -203,26 +189,30 @@ numeral-below w e =
 
 -- what is to be shown of a word w that is the number z
 abbrev Said : Bool → List ℕ → ℤ → Type 0
-Said signs w z = (w ≡ decimal z) × TenDigits z × (signFits signs z ≡ true)
+Said signs w z = (w ≡ decimal z) × AtMostTenDigits z × (signFits signs z ≡ true)
 
-negative-said : (signs : Bool) (w : List ℕ) → (signs && isNegative w) ≡ true → Said signs w (negℤ (pos (value (drop 1 w))))
+negative-said : (w : List ℕ) (z : ℤ) → startsWith minus w ≡ true → negativeOf (drop 1 w) ≡ some z → Said true w z
 unfolding decimal
-negative-said false w e = absurd (false≢true e)
-negative-said true [] e = absurd (false≢true e)
-negative-said true (b ∷ w) e =
-    let t = four true (eqb b minus) (isNumeral w) (not (eqb (value w) 0)) e in
-    by (value w) (λ i. eqb-true b minus (t .1) i ∷ numeral-written w (t .2) i) (numeral-below w (t .2)) (t .3)
+negative-said [] z m e = absurd (false≢true m)
+negative-said (b ∷ w) z m e = by (isNumeral w) refl (value w) refl e
   where
-    by : (n : ℕ) → b ∷ w ≡ minus ∷ digits n → n < 10 ^ 10 → not (eqb n 0) ≡ true → Said true (b ∷ w) (negℤ (pos n))
-    by zero d l k = absurd (false≢true k)
-    by (suc n) d l k = (d, l, refl)
+    by : (p : Bool) → isNumeral w ≡ p → (n : ℕ) → value w ≡ n → cond (p && not (eqb n 0)) (some (negℤ (pos n))) none ≡ some z
+        → Said true (b ∷ w) z
+    by false t n v h = absurd (Option·none-ne-some z h)
+    by true t zero v h = absurd (Option·none-ne-some z h)
+    by true t (suc n) v h = subst (Said true (b ∷ w)) (Option·some-injective _ _ (rw (eqb·suc-zero n) at h)) (
+      (λ i. eqb-true b minus m i ∷ (numeral-written w t ∙ ap digits v) i),
+      subst (λ k. k < 10 ^ 10) v (numeral-below w t),
+      refl,
+    )
 
 pub number-is-decimal : NumberIsDecimal
 unfolding number decimal
-number-is-decimal signs w z e = by (isNumeral w) refl (signs && isNegative w) refl e
+number-is-decimal signs w z e = by signs (isNumeral w) refl (startsWith minus w) refl e
   where
-    by : (p : Bool) → isNumeral w ≡ p → (q : Bool) → (signs && isNegative w) ≡ q
-        → cond p (some (pos (value w))) (cond q (some (negℤ (pos (value (drop 1 w))))) none) ≡ some z → Said signs w z
-    by true t q u h = subst (Said signs w) (Option·some-injective _ _ h) (numeral-written w t, numeral-below w t, refl)
-    by false t true u h = subst (Said signs w) (Option·some-injective _ _ h) (negative-said signs w u)
-    by false t false u h = absurd (Option·none-ne-some z h)
+    by : (signs : Bool) (p : Bool) → isNumeral w ≡ p → (q : Bool) → startsWith minus w ≡ q
+        → cond p (some (pos (value w))) (cond (signs && q) (negativeOf (drop 1 w)) none) ≡ some z → Said signs w z
+    by signs true t q u h = subst (Said signs w) (Option·some-injective _ _ h) (numeral-written w t, numeral-below w t, refl)
+    by true false t true u h = negative-said w z u h
+    by true false t false u h = absurd (Option·none-ne-some z h)
+    by false false t q u h = absurd (Option·none-ne-some z h)

@@ -1,23 +1,23 @@
 -- Words as numbers: one digit more by `drop-next`, and the rule of a number at each of the tests that the code makes.
 use mathlib.Core.Path.{_≡_, refl, sym}
-use mathlib.Core.Bool.{Bool, true, false, _&&_, not, cond, or-true, and-false, true≢false}
+use mathlib.Core.Bool.{Bool, true, false, cond, or-true, and-false, and-eq-true-iff, true≢false}
 use mathlib.Core.List.{List, [], _∷_}
-use mathlib.Core.Option.{Option, none, some}
+use mathlib.Core.Option.{none, some}
 use Prim.Native.Nat.{ℕ, _+_, _-_, _*_, _≤_, _<_}
 use native.Mathlib.Nat as NL
 use native.Mathlib.Omega.{arith}
-use borrow.Author.Tests.{eq-eqb, ne-eqb, le-leb, lt-leb, eqb-true}
-use lib.Dec.{eqb}
+use borrow.Author.Tests.{eq-eqb, ne-eqb, le-leb, lt-leb, leb-true, eqb-true}
+use lib.Dec.{leb, eqb}
 use lib.IntN.{ℤ, pos, negℤ}
 use lib.ListN.{length, drop, getD}
 use Rattle.algebra.specs.Table.{every}
 use Rattle.algebra.proofs.Slice.{drop-next}
-use Rattle.text.specs.Numbers.{zeroDigit, isDigit, minus, startsWith, isNumeral, valueFrom, value, number}
+use Rattle.text.specs.Numbers.{zeroDigit, isDigit, minus, startsWith, isNumeral, valueFrom, value, digitsAfter, negativeOf, number}
 
 -- ---- the first byte
-pub starts-empty : (b : ℕ) (w : List ℕ) → length w < 1 → startsWith b w ≡ false
+pub starts-empty : (b : ℕ) (w : List ℕ) → length w ≤ 0 → startsWith b w ≡ false
 starts-empty b [] h = refl
-starts-empty b (x ∷ w) h = absurd (NL.not-suc-le-zero (NL.le-of-suc-le-suc h))
+starts-empty b (x ∷ w) h = absurd (NL.not-suc-le-zero h)
 
 pub starts-first : (b : ℕ) (w : List ℕ) → 1 ≤ length w → startsWith b w ≡ eqb (getD w 0 0) b
 starts-first b [] h = absurd (NL.not-suc-le-zero h)
@@ -28,22 +28,20 @@ starts-long b [] e = absurd (true≢false (sym e))
 starts-long b (x ∷ w) e = omega arith
 
 -- ---- digits
--- the number that digits are after a number n that goes before them
-abbrev pub digitsAfter : ℕ → List ℕ → Option ℤ
-digitsAfter n w = cond (every isDigit w) (some (pos (valueFrom n w))) none
+pub digit-range : (b : ℕ) → isDigit b ≡ true → (zeroDigit ≤ b) × (b ≤ 0x39)
+digit-range b e =
+    let t = and-eq-true-iff (leb zeroDigit b) (leb b 0x39) .0 e in
+    (leb-true zeroDigit b (t .0), leb-true b 0x39 (t .1))
 
 -- the byte at i is no digit, and it is one
 module _ (n : ℕ) (w : List ℕ) (i : ℕ) (h : i < length w) where
-  pub digits-below : getD w i 0 < zeroDigit → digitsAfter n (drop i w) ≡ none
-  digits-below k = rw (drop-next w i 0 h, lt-leb zeroDigit (getD w i 0) k)
+  pub digits-end : isDigit (getD w i 0) ≡ false → digitsAfter n (drop i w) ≡ none
+  digits-end e = rw (drop-next w i 0 h, e)
 
-  pub digits-above : 0x39 < getD w i 0 → digitsAfter n (drop i w) ≡ none
-  digits-above k = rw (drop-next w i 0 h, le-leb zeroDigit (getD w i 0) (omega arith), lt-leb (getD w i 0) 0x39 k)
-
-  pub digits-next : zeroDigit ≤ getD w i 0 → getD w i 0 ≤ 0x39
+  pub digits-next : isDigit (getD w i 0) ≡ true
       → digitsAfter n (drop i w) ≡ digitsAfter (n * 10 + (getD w i 0 - zeroDigit)) (drop (i + 1) w)
   unfolding valueFrom
-  digits-next k l = rw (drop-next w i 0 h, le-leb zeroDigit (getD w i 0) k, le-leb (getD w i 0) 0x39 l)
+  digits-next e = rw (drop-next w i 0 h, e)
 
 -- ---- numbers without a sign
 module _ (w : List ℕ) where
@@ -85,10 +83,6 @@ module _ (w : List ℕ) where
       by false e′ = (cc, cc)
 
 -- ---- numbers that may have one
--- the number that a word is after a minus sign
-abbrev pub negativeOf : List ℕ → Option ℤ
-negativeOf w = cond (isNumeral w && not (eqb (value w) 0)) (some (negℤ (pos (value w)))) none
-
 pub negative-none : (w : List ℕ) → number false w ≡ none → negativeOf w ≡ none
 negative-none w e = rw (numeral-none w e)
 

@@ -3,7 +3,7 @@
 use mathlib.Core.Path.{_≡_, refl, sym, ap, _∙_}
 use mathlib.Core.Bool.{Bool, true, false, cond, and-false}
 use mathlib.Core.List.{List, [], _∷_}
-use Prim.Native.Nat.{ℕ, suc, _+_, _-_, _≤_, _<_}
+use Prim.Native.Nat.{ℕ, zero, suc, _+_, _-_, _≤_, _<_}
 use native.Mathlib.Numerals.{add-one}
 use native.Mathlib.Omega.{arith}
 use borrow.Author.Tests.{eq-eqb, ne-eqb, lt-ltb, le-ltb}
@@ -48,6 +48,12 @@ lines-next n i s h = ap (λ (k : ℕ). afterLines k s) left
     left : n - i ≡ suc (n - (i + 1))
     left = omega arith
 
+-- the last line is passed as the first is
+pub lines-last : (n : ℕ) (s : List ℕ) → afterLines (suc n) s ≡ after lineEnd (afterLines n s)
+unfolding afterLines
+lines-last zero s = refl
+lines-last (suc n) s = lines-last n (after lineEnd s)
+
 -- ---- before and after as parts of the text
 module _ (b : ℕ) where
   -- what stands before the first b is the text's front
@@ -62,7 +68,7 @@ module _ (b : ℕ) where
       by false ih = ap (λ (l : List ℕ). x ∷ l) ih
 
   -- what stands after it is the text from one place further on
-  pub after-drop : (s : List ℕ) → drop (suc (length (before b s))) s ≡ after b s
+  after-drop : (s : List ℕ) → drop (suc (length (before b s))) s ≡ after b s
   unfolding before after
   after-drop [] = refl
   after-drop (x ∷ s) = by (eqb x b) (after-drop s)

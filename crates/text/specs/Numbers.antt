@@ -40,13 +40,17 @@ valueFrom n (b ∷ w) = valueFrom (n * 10 + (b - zeroDigit)) w
 abbrev pub value : List ℕ → ℕ
 value w = valueFrom 0 w
 
--- "a minus sign .. before a nonzero .. number"
-abbrev pub isNegative : List ℕ → Bool
-isNegative w = startsWith minus w && isNumeral (drop 1 w) && not (eqb (value (drop 1 w)) 0)
+-- what bytes are as digits after a number n that goes before them
+abbrev pub digitsAfter : ℕ → List ℕ → Option ℤ
+digitsAfter n w = cond (every isDigit w) (some (pos (valueFrom n w))) none
+
+-- "a minus sign .. before a nonzero .. number": the number that digits are after one
+abbrev pub negativeOf : List ℕ → Option ℤ
+negativeOf w = cond (isNumeral w && not (eqb (value w) 0)) (some (negℤ (pos (value w)))) none
 
 -- the number that a word is; `signs` says whether it may have a sign
 unfoldable pub number : Bool → List ℕ → Option ℤ
-number signs w = cond (isNumeral w) (some (pos (value w))) (cond (signs && isNegative w) (some (negℤ (pos (value (drop 1 w))))) none)
+number signs w = cond (isNumeral w) (some (pos (value w))) (cond (signs && startsWith minus w) (negativeOf (drop 1 w)) none)
 
 -- what the code finds, as the definition says it
 abbrev pub found : Number → Option ℤ
@@ -57,7 +61,7 @@ found NotANumber = none
 abbrev pub digit : ℕ → List ℕ
 digit d = (zeroDigit + d) ∷ []
 
--- the digits of n, at most one more than `steps`
+-- the digits of a number below 10 ^ (steps + 1)
 unfoldable pub digitsWithin : ℕ → ℕ → List ℕ
 digitsWithin zero n = digit n
 digitsWithin (suc steps) n = cond (ltb n 10) (digit n) (digitsWithin steps (n / 10) ++ digit (n % 10))
@@ -70,21 +74,21 @@ unfoldable pub decimal : ℤ → List ℕ
 decimal (pos n) = digits n
 decimal (negsuc n) = minus ∷ digits (suc n)
 
--- ---- what is proved of them
 -- at most 10 digits, with or without a sign
-abbrev pub TenDigits : ℤ → Type 0
-TenDigits z = natAbs z < 10 ^ 10
+abbrev pub AtMostTenDigits : ℤ → Type 0
+AtMostTenDigits z = natAbs z < 10 ^ 10
 
 -- whether a sign is there only where it may be
 abbrev pub signFits : Bool → ℤ → Bool
 signFits signs (pos n) = true
 signFits signs (negsuc n) = signs
 
+-- ---- what is proved of them
 -- a word that is a number is that number's decimal text
 abbrev pub NumberIsDecimal : Type 0
 NumberIsDecimal = (signs : Bool) (w : List ℕ) (z : ℤ) → number signs w ≡ some z
-    → (w ≡ decimal z) × TenDigits z × (signFits signs z ≡ true)
+    → (w ≡ decimal z) × AtMostTenDigits z × (signFits signs z ≡ true)
 
 -- and the decimal text of a number is that number
 abbrev pub DecimalIsNumber : Type 0
-DecimalIsNumber = (signs : Bool) (z : ℤ) → TenDigits z → signFits signs z ≡ true → number signs (decimal z) ≡ some z
+DecimalIsNumber = (signs : Bool) (z : ℤ) → AtMostTenDigits z → signFits signs z ≡ true → number signs (decimal z) ≡ some z

@@ -12,14 +12,12 @@ pub fn until(s: &[u8], b: u8) -> usize
     ensures { λ r. ⌜ r ≡ length (before b (now (s .entry))) ⌝ }
     ensures { λ r. ⌜ r ≤ length (now (s .entry)) ⌝ }
 {
-    let mut i = 0;
-    while i < s.len() {
+    for i in 0..s.len() {
         if s[i] == b {
             return i;
         }
-        i += 1;
     }
-    i
+    s.len()
 }
 
 // Where the bytes after the first `b` of `s` begin: at its end where it has none.
@@ -27,11 +25,11 @@ pub fn past(s: &[u8], b: u8) -> usize
     ensures { λ r. ⌜ drop r (now (s .entry)) ≡ after b (now (s .entry)) ⌝ }
     ensures { λ r. ⌜ r ≤ length (now (s .entry)) ⌝ }
 {
-    let k = until(s, b);
-    if k < s.len() {
-        return k + 1;
+    let at = until(s, b);
+    if at < s.len() {
+        return at + 1;
     }
-    k
+    at
 }
 
 pub fn same(s: &[u8], t: &[u8]) -> bool
@@ -54,9 +52,9 @@ pub fn line_at(text: &[u8], n: usize) -> &[u8]
 {
     let mut rest = text;
     for _ in 1..n {
-        let k = past(rest, b'\n');
-        rest = &rest[k..];
+        let next = past(rest, b'\n');
+        rest = &rest[next..];
     }
-    let k = until(rest, b'\n');
-    &rest[..k]
+    let end = until(rest, b'\n');
+    &rest[..end]
 }

@@ -11,10 +11,10 @@ use Rattle.text.proofs.lines.until.Statement.{statement}
 use Rattle.text.proofs.lines.until.Tie as tie
 
 abbrev Inv-loop : tie.InvT-loop
-Inv-loop s b i₀ i = (i ≤ length s) × (length (before b s) ≡ i + length (before b (drop i s)))
+Inv-loop s b i₀ i-end i = (i ≤ length s) × (length (before b s) ≡ i + length (before b (drop i s)))
 
 abbrev μ-loop : tie.MeasureT-loop
-μ-loop s b i₀ i = length s - i
+μ-loop s b i₀ i-end i = length s - i
 
 returns : tie.Need-returns Inv-loop μ-loop
 returns c =
@@ -30,7 +30,7 @@ returns-2 : tie.Need-returns-2 Inv-loop μ-loop
 unfolding before
 returns-2 c =
     let a = c .before .before .args in
-    omega (arith, ap (λ (l : List ℕ). length (before (a .b) l)) (drop-of-length-le (a .s .now) (c .loop-test .left)))
+    omega (arith, ap (λ (l : List ℕ). length (before (a .b) l)) (drop-of-length-le (a .s .now) {i = c .before .loop .i} (omega arith)))
 
 pub until-spec : {M : Type 1} → statement M
 until-spec =

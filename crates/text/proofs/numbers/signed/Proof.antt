@@ -4,8 +4,8 @@ use mathlib.Core.Path.{sym, ap, _∙_}
 use Prim.Native.Nat.{_≤_}
 use lib.ListN.{length}
 use Rattle.algebra.proofs.Slice.{part-to-end}
-use Rattle.text.specs.Numbers.{minus}
-use Rattle.text.proofs.Read.{starts-long, negativeOf, number-minus, number-plain}
+use Rattle.text.specs.Numbers.{minus, negativeOf}
+use Rattle.text.proofs.Read.{starts-long, number-minus, number-plain}
 use Rattle.text.proofs.numbers.signed.Statement.{statement}
 use Rattle.text.proofs.numbers.signed.Tie as tie
 
