@@ -1,4 +1,5 @@
-// What a job is made of, and the test of a limit. The numbers may have any content: the curve call refuses what lies outside the paper's limits.
+// What a job is made of, and the test of a limit. The numbers may have any content: the curve call refuses what lies outside the paper's
+// limits.
 
 ghost use mathlib.Core.Path.{_≡_};
 ghost use Rattle.model.specs.Answer.{outside};
