@@ -1,6 +1,6 @@
 -- A line by its parts: the keyword, and the fields after it. Words are split at the first space, so each law goes by the tests that the
 -- definition makes there.
-use mathlib.Core.Path.{_≡_, refl, sym, ap, _∙_}
+use mathlib.Core.Path.{_≡_, refl, sym, ap, subst, _∙_}
 use mathlib.Core.Bool.{Bool, true, false, _&&_, cond}
 use mathlib.Core.List.{List, [], _∷_}
 use mathlib.Core.Option.{Option, none, some}
@@ -18,8 +18,11 @@ use Rattle.text.specs.Numbers.{number}
 use Rattle.text.proofs.Scan.{before-take, has-before, words-split, until-before, until-after, until-end, until-found}
 use Rattle.text.proofs.Decimal.{decimal-plain, number-is-decimal}
 use Rattle.sheet.specs.Line.{Line, numbers, faulty, both, allNumbers, ofNumbers, line}
-use Rattle.sheet.specs.Parts.{Rest, parts, wrong, afterKeyword, headOf, fields}
-use Rattle.sheet.specs.declared.line.Head.the-variants.{Numbers}
+use Rattle.sheet.specs.Parts.{Rest, parts, wrong, afterKeyword, headOf, headWithin, fields}
+use Rattle.sheet.specs.declared.line.Head.{Head}
+use Rattle.sheet.specs.declared.line.Head.the-variants.{Numbers, Refused}
+use Rattle.sheet.specs.declared.Reason.{Reason}
+use Rattle.sheet.specs.Call.{numberOf}
 
 -- ---- the keyword
 -- the part of s from a to b is the rest of its first b bytes
@@ -58,12 +61,12 @@ module _ (keyword s : List ℕ) (end : ℕ) (e : end ≡ length (before lineEnd 
         )
 
 -- ---- the fields
-abbrev pub ofRest : Bool → ℕ → Rest → Line
+abbrev ofRest : Bool → ℕ → Rest → Line
 ofRest signs count (parts part rest) = fields signs count part rest
 ofRest signs count (wrong n) = faulty n
 
 -- a line with a field or more is its keyword and its fields
-pub line-fields : (signs : Bool) (keyword : List ℕ) (count : ℕ) (s : List ℕ)
+line-fields : (signs : Bool) (keyword : List ℕ) (count : ℕ) (s : List ℕ)
     → line signs keyword (suc count) s ≡ ofRest signs (suc count) (afterKeyword keyword s)
 unfolding line afterKeyword fields
 line-fields signs keyword count s =
@@ -82,6 +85,22 @@ line-fields signs keyword count s =
     by true true false part rest = refl
     by true false true part rest = rw (eqb·zero-suc count)
     by true false false part rest = refl
+
+-- what the code has of a line that begins with its keyword: its numbers stand from start to end
+pub record GoodHead (signs : Bool) (keyword : List ℕ) (count : ℕ) (s : List ℕ) (start end : ℕ) : Type 0 where
+  pub gives : line signs keyword count s ≡ fields signs count (take (end - start) (drop start s)) (drop (end + 1) s)
+  pub within : (start ≤ end) × (end < length s)
+
+module _ (signs : Bool) (keyword : List ℕ) (count : ℕ) (s : List ℕ) {head : Head}
+    (tells : (headOf s head ≡ afterKeyword keyword s) × headWithin (length s) head) where
+  by-head : {found : Head} → head ≡ found → line signs keyword (suc count) s ≡ ofRest signs (suc count) (headOf s found)
+  by-head e = line-fields signs keyword count s ∙ ap (ofRest signs (suc count)) (sym (tells .0) ∙ ap (headOf s) e)
+
+  pub good-head : {start end : ℕ} → head ≡ Numbers start end → GoodHead signs keyword (suc count) s start end
+  good-head e = record { gives = by-head e; within = subst (headWithin (length s)) e (tells .1) }
+
+  pub faulty-head : {reason : Reason} → head ≡ Refused reason → line signs keyword (suc count) s ≡ faulty (numberOf reason)
+  faulty-head e = by-head e
 
 module _ (signs : Bool) (part rest : List ℕ) where
   -- the one word, where there is no space

@@ -1,14 +1,14 @@
 -- What `read_keyword` finds parts the line, and the first space parts its two numbers. The second is read before the first, since too many
 -- words are refused before a word that is no number.
 use borrow.Author.Needs.{needs}
-use mathlib.Core.Path.{_≡_, refl, sym, ap, subst, _∙_}
+use mathlib.Core.Path.{_≡_, refl, sym, ap, _∙_}
 use mathlib.Core.Bool.{Bool}
 use mathlib.Core.List.{List, [], _∷_}
 use mathlib.Core.Option.{Option}
-use Prim.Native.Nat.{ℕ, _+_, _-_, _≤_, _<_}
+use Prim.Native.Nat.{ℕ, _+_, _-_}
 use native.Mathlib.Omega.{arith}
 use lib.IntN.{ℤ}
-use lib.ListN.{length, take, drop}
+use lib.ListN.{take, drop}
 use lib.Seq.{length-take-le}
 use mir.Syntax.{w64}
 use Rattle.algebra.proofs.Slice.{part-to-end}
@@ -18,11 +18,10 @@ use Rattle.text.specs.Lines.{before}
 use Rattle.text.specs.Numbers.{number, found}
 use Rattle.text.specs.declared.Number.{Number}
 use Rattle.text.proofs.Scan.{until-before, until-after, until-end, until-found}
-use Rattle.sheet.specs.declared.line.Head.{Head}
 use Rattle.sheet.specs.declared.line.Last.{Last}
 use Rattle.sheet.specs.Line.{Line, numbers, line}
-use Rattle.sheet.specs.Parts.{headOf, headWithin, fields, lastOf}
-use Rattle.sheet.proofs.Parted.{ofRest, line-fields, withFirst, too-few, first-field}
+use Rattle.sheet.specs.Parts.{fields, lastOf}
+use Rattle.sheet.proofs.Parted.{GoodHead, good-head, faulty-head, withFirst, too-few, first-field}
 use Rattle.sheet.proofs.line.read_two.Statement.{statement}
 use Rattle.sheet.proofs.line.read_two.Tie as tie
 
@@ -33,63 +32,57 @@ module _ (c : tie.After-read-keyword) where
   abbrev rest : List ℕ
   rest = c .before .before .before .args .rest .now
 
-  abbrev whole : Line
-  whole = line signs (c .before .before .before .args .keyword .now) 2 rest
+  abbrev keyword : List ℕ
+  keyword = c .before .before .before .args .keyword .now
 
-  -- the keyword's part of the line
-  keyword : (head : Head) → c .read-keyword .result ≡ head → whole ≡ ofRest signs 2 (headOf rest head)
-  keyword head e =
-      line-fields signs (c .before .before .before .args .keyword .now) 1 rest
-      ∙ ap (ofRest signs 2) (sym (c .read-keyword .ensures .0) ∙ ap (headOf rest) e)
+  abbrev whole : Line
+  whole = line signs keyword 2 rest
 
 module _ (c : tie.After-start) where
+  abbrev read-at : tie.After-read-keyword
+  read-at = c .before .before
+
   abbrev start : ℕ
   start = c .start .given .0 .0
 
   abbrev end : ℕ
   end = c .start .given .0 .1 .0
 
-  within : (start ≤ end) × (end < length (rest (c .before .before)))
-  within =
-      let head = c .before .before .read-keyword in
-      subst (headWithin (length (rest (c .before .before)))) (c .start .given .1) (head .ensures .1)
+  good : GoodHead (signs read-at) (keyword read-at) 2 (rest read-at) start end
+  good = good-head (signs read-at) (keyword read-at) 1 (rest read-at) (read-at .read-keyword .ensures) (c .start .given .1)
 
   -- the bytes of the numbers, and those after the line
   abbrev part : List ℕ
-  part = take (end - start) (drop start (rest (c .before .before)))
+  part = take (end - start) (drop start (rest read-at))
 
   abbrev others : List ℕ
-  others = drop (end + 1) (rest (c .before .before))
+  others = drop (end + 1) (rest read-at)
 
 returns : tie.Need-returns
 returns c =
     let until = c .before .until in
-    let at = c .before .before .before .before in
-    let alone = until-end space (part at) (until .result) (until .ensures .0) (omega arith) in
-    let read = at .before .before in
-    (sym (keyword read _ (at .start .given .1) ∙ too-few (signs read) 0 (part at) (others at) alone), search needs)
+    let head = c .before .before .before .before in
+    let alone = until-end space (part head) (until .result) (until .ensures .0) (omega arith) in
+    (sym (good head .gives ∙ too-few (signs (read-at head)) 0 (part head) (others head) alone), search needs)
 
 module _ (c : tie.After-last-number) where
   abbrev head-at : tie.After-start
   head-at = c .before .before .before .before .before .before
 
-  abbrev read-at : tie.After-read-keyword
-  read-at = head-at .before .before
-
   abbrev first : Option ℤ
-  first = number (signs read-at) (before space (part head-at))
+  first = number (signs (read-at head-at)) (before space (part head-at))
 
   -- what follows the first number's space
-  second : (last : Last) → c .last-number .result ≡ last → whole read-at ≡ withFirst first (lastOf last (others head-at))
+  second : (last : Last) → c .last-number .result ≡ last → whole (read-at head-at) ≡ withFirst first (lastOf last (others head-at))
   second last e =
       let until = c .before .before .before .until in
-      let k = until .result in
-      keyword read-at _ (head-at .start .given .1)
-      ∙ first-field (signs read-at) 0 (part head-at) (others head-at)
-      (until-found space (part head-at) k (until .ensures .0) (omega arith))
+      let at = until .result in
+      good head-at .gives
+      ∙ first-field (signs (read-at head-at)) 0 (part head-at) (others head-at)
+      (until-found space (part head-at) at (until .ensures .0) (omega arith))
       ∙ ap (withFirst first) (
-      ap (λ (l : List ℕ). fields (signs read-at) 1 l (others head-at))
-      (sym (part-to-end (part head-at) (k + 1) ∙ until-after space (part head-at) k (until .ensures .0)))
+      ap (λ (l : List ℕ). fields (signs (read-at head-at)) 1 l (others head-at))
+      (sym (part-to-end (part head-at) (at + 1) ∙ until-after space (part head-at) at (until .ensures .0)))
       ∙ sym (c .last-number .ensures (others head-at))
       ∙ ap (λ (l : Last). lastOf l (others head-at)) e)
 
@@ -97,22 +90,28 @@ module _ (c : tie.After-number) where
   abbrev last-at : tie.After-last-number
   last-at = c .before .before .before .before .before
 
+  abbrev found-at : tie.After-start
+  found-at = head-at last-at
+
   abbrev z : ℤ
   z = c .before .before .before .z .given .0 .0
 
   -- and the first number
   both : (n : Number) → c .number .result ≡ n
-      → whole (read-at last-at) ≡ withFirst (found n) (numbers (z ∷ []) (others (head-at last-at)))
+      → whole (read-at found-at) ≡ withFirst (found n) (numbers (z ∷ []) (others found-at))
   both n e =
       let until = last-at .before .before .before .until in
       second last-at _ (c .before .before .before .z .given .1)
-      ∙ ap (λ (x : Option ℤ). withFirst x (numbers (z ∷ []) (others (head-at last-at)))) (
-      ap (number (signs (read-at last-at))) (sym (until-before space (part (head-at last-at)) (until .result) (until .ensures .0)))
+      ∙ ap (λ (x : Option ℤ). withFirst x (numbers (z ∷ []) (others found-at))) (
+      ap (number (signs (read-at found-at))) (sym (until-before space (part found-at) (until .result) (until .ensures .0)))
       ∙ sym (c .number .ensures)
       ∙ ap found e)
 
 returns-2 : tie.Need-returns-2
-returns-2 c = (sym (keyword (c .before .before .before) _ (c .before .reason .given .1)), search needs)
+returns-2 c =
+    let read = c .before .before .before in
+    let bad = faulty-head (signs read) (keyword read) 1 (rest read) (read .read-keyword .ensures) (c .before .reason .given .1) in
+    (sym bad, search needs)
 
 returns-3 : tie.Need-returns-3
 returns-3 c = (sym (second (c .before .before .before) _ (c .before .reason2 .given .1)), search needs)
@@ -123,11 +122,11 @@ returns-4 c = (sym (both (c .before .before) _ (c .enum-told .given .1)), search
 returns-5 : tie.Need-returns-5
 returns-5 c =
     let number-at = c .before .before .before in
-    let head = head-at (last-at number-at) in
+    let head = found-at number-at in
     let y-held = held w64 {z = c .before .y .given .0 .0} (omega arith) refl in
     let z-held = held w64 {z = z number-at} (omega arith) refl in (
       (λ i. numbers (y-held i ∷ z-held i ∷ []) (others head)) ∙ sym (both number-at _ (c .before .y .given .1)),
-      omega (arith, within head .1),
+      omega (arith, good head .within .1),
     )
 
 pub read-two-spec : {M : Type 1} → statement M
@@ -137,9 +136,9 @@ read-two-spec =
     (λ c κs. search needs)
     (λ c. search needs)
     (λ c. search needs)
-    (λ c. within (c .before) .0)
-    (λ c. let w = within (c .before) in search needs)
-    (λ c. let w = within (c .before) in search needs)
+    (λ c. good (c .before) .within .0)
+    (λ c. let w = good (c .before) .within in search needs)
+    (λ c. let w = good (c .before) .within in search needs)
     (λ c κs. search needs)
     returns
     (λ c. search needs)
@@ -153,7 +152,7 @@ read-two-spec =
     (λ c κs. search needs)
     (λ c. search needs)
     (λ c. search needs)
-    (λ c. let w = within (head-at (last-at (c .before .before .before))) in search needs)
+    (λ c. let w = good (found-at (c .before .before .before)) .within in search needs)
     returns-2
     returns-3
     returns-4
