@@ -1,0 +1,59 @@
+-- What the tests that refuse nothing say: each fails, so the rows are equally long and short enough, and their entries small and in order.
+use mathlib.Core.Path.{_≡_, sym}
+use mathlib.Core.Bool.{false, not, _||_}
+use mathlib.Core.List.{List}
+use Prim.Native.Nat.{ℕ, _*_, _≤_, _<_}
+use native.Mathlib.Nat as NL
+use borrow.Author.Tests.{ltb-false, eqb-true, not-false}
+use lib.Dec.{eqb}
+use lib.IntN.{ℤ, pos, natAbs}
+use lib.Signed.{ltZ, _≤ℤ_}
+use lib.ListN.{length, getD}
+use Rattle.algebra.specs.Smallest.{smallest}
+use Rattle.algebra.proofs.Integer.{≤ℤ-of-ltZ}
+use Rattle.algebra.proofs.Or.{or-left, or-right}
+use Rattle.algebra.proofs.Smallest.{smallest-finds}
+use Rattle.model.specs.Answer.{outside}
+use Rattle.model.proofs.Answer.{within}
+use Rattle.enclosure.specs.Entry.{unit, beyond}
+use Rattle.quantile.specs.Call.{wrongLengths, wrongEntry, wrongAt}
+use Rattle.quantile.specs.Room.{Summable}
+
+-- 31
+pub same-length : (low high : ℕ) → wrongLengths low high ≡ false → low ≡ high
+same-length low high e = eqb-true low high (not-false (eqb low high) (or-right (outside 1 501 low) (not (eqb low high)) e))
+
+short-enough : (low high : ℕ) → wrongLengths low high ≡ false → low ≤ 501
+short-enough low high e = within 1 501 low (or-left (outside 1 501 low) (not (eqb low high)) e) .1
+
+-- 33
+right : (low high : ℤ) → wrongEntry low high ≡ false → (natAbs low ≤ 2 * unit) × (natAbs high ≤ 2 * unit) × (low ≤ℤ high)
+right low high e =
+    let ends = or-left (beyond (2 * unit) low || beyond (2 * unit) high) (ltZ high low) e in (
+      ltb-false (2 * unit) (natAbs low) (or-left (beyond (2 * unit) low) (beyond (2 * unit) high) ends),
+      ltb-false (2 * unit) (natAbs high) (or-right (beyond (2 * unit) low) (beyond (2 * unit) high) ends),
+      ≤ℤ-of-ltZ low high (or-right (beyond (2 * unit) low || beyond (2 * unit) high) (ltZ high low) e),
+    )
+
+-- rows that pass both
+pub record Passed (low high : List ℤ) : Type 0 where
+  pub low-room : Summable low
+  pub high-room : Summable high
+  pub same : length low ≡ length high
+  pub ordered : (x : ℕ) → x < length low → getD low x (pos 0) ≤ℤ getD high x (pos 0)
+
+pub passed : (low high : List ℤ) → wrongLengths (length low) (length high) ≡ false
+    → length low ≤ smallest (wrongAt low high) (length low) → Passed low high
+passed low high lengths none = record {
+  low-room = record { short = short-enough _ _ lengths; small = λ x l. entries x l .0 };
+  high-room = record { short = rw (sym same) (short-enough _ _ lengths); small = λ x l. entries x (rw (sym same) at l) .1 };
+  same = same;
+  ordered = λ x l. entries x l .2;
+}
+  where
+    same : length low ≡ length high
+    same = same-length _ _ lengths
+
+    entries : (x : ℕ) → x < length low → (natAbs (getD low x (pos 0)) ≤ 2 * unit) × (natAbs (getD high x (pos 0)) ≤ 2 * unit)
+        × (getD low x (pos 0) ≤ℤ getD high x (pos 0))
+    entries x l = right _ _ (smallest-finds (wrongAt low high) (length low) .1 x (NL.lt-of-lt-of-le l none))

@@ -1,0 +1,62 @@
+-- The loop's invariant: no entry below x is wrong, so the answer is the first that is.
+use borrow.Author.Needs.{needs}
+use borrow.Author.Count.{below-none, below-more}
+use mathlib.Core.Path.{_≡_, refl, sym, _∙_}
+use Prim.Native.Nat.{_≤_, _-_}
+use native.Mathlib.Nat.{lt-irrefl}
+use native.Mathlib.Omega.{arith}
+use lib.ListN.{length}
+use mir.Syntax.{w64}
+use Rattle.algebra.specs.Smallest.{FailBelow}
+use Rattle.algebra.proofs.Smallest.{smallest-is}
+use Rattle.algebra.proofs.Size.{held}
+use Rattle.quantile.specs.Call.{wrongAt}
+use Rattle.quantile.proofs.check.first_wrong_entry.Statement.{statement}
+use Rattle.quantile.proofs.check.first_wrong_entry.Tie as tie
+
+abbrev Inv-loop : tie.InvT-loop
+Inv-loop low high x₀ x-end x = (x ≤ length low) × FailBelow (wrongAt low high) x
+
+abbrev μ-loop : tie.MeasureT-loop
+μ-loop low high x₀ x-end x = length low - x
+
+-- what the call says of the entry
+tested : (c : tie.After-is-wrong-entry Inv-loop μ-loop) → let a = c .before .before .before .before .before .args in
+    c .is-wrong-entry .result ≡ wrongAt (a .low .now) (a .high .now) (c .before .before .before .before .loop .x)
+tested c =
+    rw (held w64 (c .before .before .is-wrong-entry-arg .given) refl, held w64 (c .before .is-wrong-entry-arg2 .given) refl)
+    at (c .is-wrong-entry .ensures)
+
+loop-holds : tie.Need-loop-holds Inv-loop μ-loop
+loop-holds c = (search needs, below-none _)
+
+returns : tie.Need-returns Inv-loop μ-loop
+returns c = sym (smallest-is _ _ _ (search needs) (c .before .before .before .before .before .loop .inv .1)
+    (λ _. sym (tested (c .before)) ∙ c .if1 .taken))
+
+loop-again : tie.Need-loop-again Inv-loop μ-loop
+loop-again c = (
+  search needs,
+  below-more _ _ (c .before .before .before .before .before .loop .inv .1) (sym (tested (c .before)) ∙ c .if1 .left),
+)
+
+returns-2 : tie.Need-returns-2 Inv-loop μ-loop
+returns-2 c = sym (smallest-is _ _ _ (search needs) (λ k h. c .before .loop .inv .1 k (omega arith)) (λ h. absurd (lt-irrefl _ h)))
+
+pub first-wrong-entry-spec : {M : Type 1} → statement M
+first-wrong-entry-spec =
+    tie.close
+    (tie.spec
+    Inv-loop
+    μ-loop
+    loop-holds
+    (λ c. search needs)
+    (λ c. search needs)
+    (λ c. search needs)
+    (λ c. search needs)
+    (λ c κs. search needs)
+    returns
+    (λ c. search needs)
+    (λ c. search needs)
+    loop-again
+    returns-2)

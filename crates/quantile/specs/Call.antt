@@ -1,0 +1,78 @@
+-- The level query: "Takes a low row, a high row and a level L."
+use mathlib.Core.Bool.{Bool, not, _||_, cond}
+use mathlib.Core.List.{List, [], _∷_}
+use Prim.Native.Nat.{ℕ, suc, _*_}
+use lib.Dec.{eqb, ltb}
+use lib.IntN.{ℤ, pos}
+use lib.Signed.{leZ, ltZ}
+use lib.ListN.{length, getD}
+use Rattle.algebra.specs.Smallest.{smallest}
+use Rattle.algebra.specs.Sum.{sumℤ}
+use Rattle.model.specs.Answer.{Answer, Condition, accepted, refused, isAccepted, condition, firstOf, outside}
+use Rattle.enclosure.specs.Entry.{unit, beyond}
+use Rattle.quantile.specs.declared.Reason.{Reason}
+use Rattle.quantile.specs.declared.Reason.the-variants.{Rows, Level, Entry, Unreached}
+use Rattle.quantile.specs.declared.QuantileAnswer.{QuantileAnswer}
+use Rattle.quantile.specs.declared.QuantileAnswer.the-variants.{Totals, Refused}
+
+-- ---- the answer
+abbrev pub numberOf : Reason → ℕ
+numberOf Rows = 31
+numberOf Level = 32
+numberOf Entry = 33
+numberOf Unreached = 34
+
+-- "Otherwise two totals"
+pub record Quantiles : Type 0 where
+  pub answer : Answer
+  pub sure : ℕ
+  pub possible : ℕ
+
+-- what the paper says for each answer of the code; after a refusal "the other numbers in its answer are 0"
+abbrev pub paper : QuantileAnswer → Quantiles
+paper (Totals sure possible) = record { answer = accepted; sure = sure; possible = possible }
+paper (Refused reason place) = record { answer = refused (numberOf reason) place; sure = 0; possible = 0 }
+
+-- ---- the search
+-- the sum of a row's entries "from 0 to" x
+abbrev pub runningSum : List ℤ → ℕ → ℤ
+runningSum row x = sumℤ (suc x) (λ z. getD row z (pos 0))
+
+-- the smallest total whose sum "reaches L", and the row's length where no total has one; on the lows this is the paper's "sure", on the
+-- highs its "possible"
+unfoldable pub quantileOf : List ℤ → ℤ → ℕ
+quantileOf row level = smallest (λ x. leZ level (runningSum row x)) (length row)
+
+-- ---- the refusals
+-- 31: "rows empty, unequal in length or longer than 501", by their lengths
+abbrev pub wrongLengths : ℕ → ℕ → Bool
+wrongLengths low high = outside 1 501 low || not (eqb low high)
+
+-- 32: "L not 1 to U"
+abbrev pub wrongLevel : ℤ → Bool
+wrongLevel level = ltZ level (pos 1) || ltZ (pos unit) level
+
+-- 33: "an entry outside -2U to 2U or low above high"
+abbrev pub wrongEntry : ℤ → ℤ → Bool
+wrongEntry low high = beyond (2 * unit) low || beyond (2 * unit) high || ltZ high low
+
+abbrev pub wrongAt : List ℤ → List ℤ → ℕ → Bool
+wrongAt low high x = wrongEntry (getD low x (pos 0)) (getD high x (pos 0))
+
+-- 34: "no total has a sum of lows, from 0 to it, of L or more"
+abbrev pub checks : List ℤ → List ℤ → ℤ → List Condition
+checks low high level =
+    condition (wrongLengths (length low) (length high)) 31 0
+    ∷ condition (wrongLevel level) 32 0
+    ∷ condition (ltb (smallest (wrongAt low high) (length low)) (length low)) 33 (smallest (wrongAt low high) (length low))
+    ∷ condition (eqb (quantileOf low level) (length low)) 34 0
+    ∷ []
+
+-- ---- the call
+-- the totals of an acceptance; after a refusal they are 0
+abbrev pub answered : Answer → ℕ → ℕ → Quantiles
+answered answer sure possible =
+    record { answer = answer; sure = cond (isAccepted answer) sure 0; possible = cond (isAccepted answer) possible 0 }
+
+unfoldable pub quantiles : List ℤ → List ℤ → ℤ → Quantiles
+quantiles low high level = answered (firstOf (checks low high level)) (quantileOf low level) (quantileOf high level)
