@@ -1,19 +1,23 @@
--- What an acceptance says: every check was passed, no entry has a fault, so the lent rows hold row 0 of the curve.
+-- What an acceptance says: every check was passed, no entry has a fault, so the lent rows hold row 0 of the curve, and are long enough for it.
 use mathlib.Core.Path.{_≡_, _∙_, ap}
 use mathlib.Core.Bool.{Bool, cond}
 use mathlib.Core.List.{List}
 use Prim.Native.Nat.{ℕ, _+_, _≤_}
+use native.Mathlib.Nat as NL
 use native.Mathlib.Omega.{arith}
+use borrow.Author.Tests.{ltb-false}
 use lib.IntN.{ℤ, pos}
 use lib.ListN.{length, getD, drop, List·getD-append}
 use Rattle.algebra.specs.Slice.{listed, written}
-use Rattle.algebra.proofs.Slice.{listed-length, listed-at}
+use Rattle.algebra.specs.Smallest.{FailBelow}
+use Rattle.algebra.proofs.Slice.{listed-length, listed-at, written-length}
+use Rattle.algebra.proofs.Smallest.{smallest-finds}
 use Rattle.model.specs.declared.Job.{Job}
 use Rattle.model.specs.Answer.{accepted, firstOf}
-use Rattle.model.proofs.Answer.{first-passed}
+use Rattle.model.proofs.Answer.{passed as condition-passed, first-passed}
 use Rattle.enclosure.specs.declared.Entry.{Entry}
 use Rattle.compound.specs.Curve.{curveRows}
-use Rattle.compound.specs.Call.{Lent, checks, faults, curveAnswer, rowAfter, ran, curveLent}
+use Rattle.compound.specs.Call.{Lent, checks, faultAt, firstFault, faults, curveAnswer, rowAfter, ran, curveLent}
 use Rattle.compound.specs.Room.{Limits, LongEnough}
 use Rattle.compound.proofs.Call.{checked-limits}
 use Rattle.accuracy.specs.Accuracy.{Accepted, shown}
@@ -25,6 +29,14 @@ module _ (job : Job) (weights : List ℕ) (lent : Lent) (ok : Accepted job weigh
 
   pub limits : Limits job weights
   limits = passed .0
+
+  pub no-fault : FailBelow (faultAt (job .law .order) (curveRows job weights)) (job .last + 1)
+  unfolding firstFault
+  no-fault =
+      let nine = condition-passed _ _ _ _ (passed .2) in
+      let ten = condition-passed _ _ _ _ (nine .1) in
+      λ x l. smallest-finds (faultAt (job .law .order) (curveRows job weights)) (job .last + 1) .1 x
+      (NL.lt-of-lt-of-le l (ltb-false _ _ (ten .0)))
 
   lent-ran : curveLent job weights lent ≡ ran job weights lent
   unfolding curveAnswer curveLent
@@ -53,3 +65,21 @@ module _ (job : Job) (weights : List ℕ) (lent : Lent) (ok : Accepted job weigh
     high = row-at (λ e. e .high) (lent .high) x l i;
     bound = row-at (λ e. e .bound) (lent .bound) x l i;
   })
+
+  -- a lent row is on return as long as it was
+  row-long : (column : Entry → ℤ) (row : List ℤ) → job .last + 1 ≤ length row
+      → job .last + 1 ≤ length (written (rowAfter column job weights) row)
+  row-long column row h =
+      rw (row-listed column) (rw (written-length entries row (omega (arith, listed-length entry (job .last + 1)))) h)
+    where
+      entry : ℕ → ℤ
+      entry x = column (curveRows job weights 0 x)
+
+      entries : List ℤ
+      entries = listed entry (job .last + 1)
+
+  pub lows-long : job .last + 1 ≤ length (curveLent job weights lent .low)
+  lows-long = rw lent-ran (row-long (λ e. e .low) (lent .low) (passed .1 .low-long))
+
+  pub highs-long : job .last + 1 ≤ length (curveLent job weights lent .high)
+  highs-long = rw lent-ran (row-long (λ e. e .high) (lent .high) (passed .1 .high-long))

@@ -4,3 +4,4 @@ pub mod Gap
 pub mod Bounds
 pub mod Call
 pub mod Accuracy
+pub mod Query

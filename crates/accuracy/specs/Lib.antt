@@ -1,2 +1,3 @@
--- Demand 3, as statements about what the lent rows hold on return.
+-- Demand 3, as statements about what the lent rows hold on return (`Accuracy`), and what it says of quantiles (`Query`).
 pub mod Accuracy
+pub mod Query

@@ -1,10 +1,10 @@
--- Both laws of `smallest` by induction on the number of places, by what the test says of the first.
+-- The laws of `smallest`, and the smallest number that has a property, by induction on the number of places, by what is found at the first.
 use mathlib.Core.Path.{_≡_, refl}
 use mathlib.Core.Bool.{Bool, true, false, cond}
 use Prim.Native.Nat.{ℕ, zero, suc, _≤_, _<_}
 use native.Mathlib.Nat as NL
 use native.Mathlib.Omega.{arith}
-use Rattle.algebra.specs.Smallest.{smallest, FailBelow, SmallestIs, SmallestFinds}
+use Rattle.algebra.specs.Smallest.{smallest, FailBelow, SmallestIs, SmallestFinds, LeastExists}
 
 pub smallest-is : SmallestIs
 unfolding smallest
@@ -28,3 +28,16 @@ smallest-finds test (suc n) = by (test 0) refl (smallest (λ k. test (suc k)) n)
         fails : (k : ℕ) → k < suc s → test k ≡ false
         fails zero h = e
         fails (suc k) h = ih .1 k (omega arith)
+
+pub least-exists : LeastExists
+least-exists P decide zero p = (0, NL.le-refl 0, p, λ k h. absurd (NL.not-suc-le-zero h))
+least-exists P decide (suc n) p = by (decide 0) (least-exists (λ k. P (suc k)) (λ k. decide (suc k)) n p)
+  where
+    by : Dec (P 0) → (i : ℕ) × (i ≤ n) × P (suc i) × ((k : ℕ) → k < i → ¬ P (suc k))
+        → (i : ℕ) × (i ≤ suc n) × P i × ((k : ℕ) → k < i → ¬ P k)
+    by (yes q) later = (0, omega arith, q, λ k h. absurd (NL.not-suc-le-zero h))
+    by (no f) (i, le, q, fails) = (suc i, omega arith, q, below)
+      where
+        below : (k : ℕ) → k < suc i → ¬ P k
+        below zero h = f
+        below (suc k) h = fails k (omega arith)

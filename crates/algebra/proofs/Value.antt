@@ -2,16 +2,19 @@
 -- whole numbers, quotients and sums of fractions are what they should be there.
 use mathlib.Core.Path.{_≡_, refl, sym, _∙_, ap, ap₂}
 use Prim.Native.Nat.{ℕ, zero, suc, _+_, _≤_}
+use native.Mathlib.Nat as NL
 use native.Mathlib.Omega.{arith}
 use lib.IntN.{ℤ, pos, negsuc, _+ℤ_}
+use lib.Signed.{_≤ℤ_}
 use Rattle.algebra.specs.Semiring.{Semiring, nat}
 use Rattle.algebra.specs.Ring.{int}
 use Rattle.algebra.specs.Order.{OrderedRing}
-use Rattle.algebra.specs.Sum.{accumulate, sum}
+use Rattle.algebra.specs.Sum.{accumulate, sum, sumℤ}
 use Rattle.algebra.specs.Fraction.{Fraction, over, whole, _⊕_, _⊗_, overSuc, _≈_, _≼_, oneTo, zeroTo}
 use Rattle.algebra.proofs.Semiring.{ring, ring-units, nat-zero, nat-suc}
 use Rattle.algebra.proofs.Ring.{neg-unique}
-use Rattle.algebra.proofs.Integer.{integers, signed, split-add}
+use Rattle.algebra.proofs.Integer.{integers, signed, split-add, *ℤ-mono, *ℤ-cancel-le}
+use Rattle.algebra.proofs.Order.{rewritten, sum-mono}
 use Rattle.algebra.proofs.Sum.{sum-related}
 use Rattle.algebra.proofs.Rational.{rationals}
 
@@ -128,3 +131,36 @@ value-oneTo n g = value-accumulate n (λ i. g (suc i))
 pub value-zeroTo : (n : ℕ) (g : ℕ → Fraction) → value (zeroTo n g) ≡ sum ℚ (suc n) (λ i. value (g i))
 unfolding zeroTo
 value-zeroTo n g = value-accumulate (suc n) g
+
+-- ---- the order of fractions, as that of their values
+pub ≼-refl : (x : Fraction) → x ≼ x
+≼-refl x = le-of-value (order .le-refl (value x))
+
+pub ≼-trans : {x y z : Fraction} → x ≼ y → y ≼ z → x ≼ z
+≼-trans h k = le-of-value (order .le-trans (value-le h) (value-le k))
+
+pub ≼-dec : (x y : Fraction) → Dec (x ≼ y)
+≼-dec x y = by (order .le-dec (value x) (value y))
+  where
+    by : Dec (order ._⊑_ (value x) (value y)) → Dec (x ≼ y)
+    by (yes h) = yes (le-of-value h)
+    by (no f) = no (λ h. f (value-le h))
+
+-- amounts in order, sums in order
+pub zeroTo-mono : (n : ℕ) (f g : ℕ → Fraction) → ((i : ℕ) → i ≤ n → f i ≼ g i) → zeroTo n f ≼ zeroTo n g
+zeroTo-mono n f g h = le-of-value (rewritten order (sum-mono order (suc n) (λ i l. value-le (h i (omega arith))))
+    (sym (value-zeroTo n f)) (sym (value-zeroTo n g)))
+
+-- whole numbers: their order, and their sum
+pub whole-mono : {a c : ℤ} → a ≤ℤ c → whole a ≼ whole c
+unfolding whole over
+whole-mono h = record { across = *ℤ-mono 1 h }
+
+pub le-of-whole : {a c : ℤ} → whole a ≼ whole c → a ≤ℤ c
+unfolding whole over
+le-of-whole h = *ℤ-cancel-le 1 (NL.le-refl 1) (h .across)
+
+pub value-whole-sum : (n : ℕ) (f : ℕ → ℤ) → value (whole (sumℤ (suc n) f)) ≡ value (zeroTo n (λ i. whole (f i)))
+value-whole-sum n f = sum-related (λ (z : ℤ) (v : A). value (whole z) ≡ v) (pos 0) _+ℤ_ 𝟘 _⊹_ value-zero
+    (λ a c u v p q. value-add a c ∙ ap₂ _⊹_ p q) (suc n) f (λ i. value (whole (f i))) (λ i l. refl)
+    ∙ sym (value-zeroTo n (λ i. whole (f i)))

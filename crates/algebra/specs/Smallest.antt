@@ -20,3 +20,7 @@ SmallestIs = (test : ℕ → Bool) (n i : ℕ) → i ≤ n → FailBelow test i 
 abbrev pub SmallestFinds : Type 0
 SmallestFinds = (test : ℕ → Bool) (n : ℕ)
     → (smallest test n ≤ n) × FailBelow test (smallest test n) × (smallest test n < n → test (smallest test n) ≡ true)
+
+-- a property that can be decided, and that n has: there is a smallest number that has it
+abbrev pub LeastExists : Type 1
+LeastExists = (P : ℕ → Type 0) → ((k : ℕ) → Dec (P k)) → (n : ℕ) → P n → (i : ℕ) × (i ≤ n) × P i × ((k : ℕ) → k < i → ¬ P k)

@@ -60,7 +60,7 @@ module _ (job : Job) (weights : List ℕ) (limits : Limits job weights) where
   abbrev places : ℕ
   places = job .last + 1
 
-  small : (j z : ℕ) → j < order → faultAt order curve z ≡ false → Small (curve j z)
+  pub small : (j z : ℕ) → j < order → faultAt order curve z ≡ false → Small (curve j z)
   small j z l e =
       let in-range = any-none order (λ j. outOfRange (curve j z)) (or-left (anyRow outOfRange order curve z) _ e) j l in
       let bounded = any-none order (λ j. boundTooLarge (curve j z)) (or-right (anyRow outOfRange order curve z) _ e) j l in

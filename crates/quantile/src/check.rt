@@ -3,7 +3,6 @@
 use enclosure::rule::is_either_beyond;
 use model::is_outside;
 ghost use mathlib.Core.Path.{_≡_};
-ghost use lib.IntN.{pos};
 ghost use lib.ListN.{length};
 ghost use Rattle.algebra.specs.Smallest.{smallest};
 ghost use Rattle.quantile.specs.Call.{wrongLengths, wrongLevel, wrongEntry, wrongAt};

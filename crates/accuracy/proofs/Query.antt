@@ -1,0 +1,102 @@
+-- The rows' first X+1 places are what the job shows. These entries are in order, as the exact amounts lie between them, and small, as none
+-- has a fault; so the level query does not refuse them, and encloses the quantile of the exact amounts.
+use mathlib.Core.Path.{_≡_, refl, sym, subst}
+use mathlib.Core.Bool.{Bool, true, false}
+use mathlib.Core.List.{List, [], _∷_}
+use Prim.Native.Nat.{ℕ, _+_, _≤_, _<_}
+use native.Mathlib.Nat as NL
+use native.Mathlib.Omega.{arith}
+use borrow.Author.Tests.{le-ltb, eq-eqb, eqb-false}
+use lib.Dec.{eqb}
+use lib.IntN.{ℤ, pos}
+use lib.Signed.{_≤ℤ_}
+use lib.ListN.{length, getD}
+use lib.Seq.{getD-take, length-take-le}
+use Rattle.algebra.specs.Fraction.{Fraction, whole, _≼_}
+use Rattle.algebra.specs.Smallest.{smallest}
+use Rattle.algebra.proofs.Integer.{signed, ≤ℤ-ltZ}
+use Rattle.algebra.proofs.Smallest.{smallest-is}
+use Rattle.algebra.proofs.Value.{≼-refl, ≼-trans, whole-mono, le-of-whole}
+use Rattle.model.specs.declared.Job.{Job}
+use Rattle.model.specs.Answer.{condition, firstOf}
+use Rattle.model.proofs.Answer.{inside}
+use Rattle.enclosure.specs.Term.{Small}
+use Rattle.compound.specs.Call.{Lent, curveLent}
+use Rattle.compound.proofs.Filled.{small}
+use Rattle.quantile.specs.Call.{quantileOf, wrongLengths, wrongLevel, wrongAt, quantiles}
+use Rattle.quantile.specs.Enclosed.{Enclose}
+use Rattle.quantile.proofs.Enclosed.{quantile-enclosed}
+use Rattle.accuracy.specs.Accuracy.{Accepted, Divisible, shown, amount}
+use Rattle.accuracy.specs.Query.{lows, highs, RowsNotRefused, EnclosesQuantile}
+use Rattle.accuracy.proofs.Call.{limits, no-fault, shows, lows-long, highs-long}
+use Rattle.accuracy.proofs.Accuracy.{accepted-divisible, encloses}
+
+module _ (job : Job) (weights : List ℕ) (lent : Lent) (ok : Accepted job weights lent) where
+  abbrev low : List ℤ
+  low = lows job weights lent
+
+  abbrev high : List ℤ
+  high = highs job weights lent
+
+  abbrev places : ℕ
+  places = job .last + 1
+
+  low-length : length low ≡ places
+  low-length = length-take-le places (curveLent job weights lent .low) (lows-long job weights lent ok)
+
+  high-length : length high ≡ places
+  high-length = length-take-le places (curveLent job weights lent .high) (highs-long job weights lent ok)
+
+  enclosed : (h : Divisible job weights) (p : Fraction) → whole (pos (job .start .low)) ≼ p → p ≼ whole (pos (job .start .high))
+      → Enclose low high (amount job weights h p)
+  enclosed h p s t x l =
+      let below : x < places = rw low-length at l in
+      simp getD-take (encloses job weights lent ok h x (omega arith) p s t)
+
+  -- ---- 31
+  right-lengths : wrongLengths (length low) (length high) ≡ false
+  right-lengths = rw (
+    low-length,
+    high-length,
+    inside 1 501 places (omega arith) (omega (arith, limits job weights lent ok .last-most)),
+    eq-eqb places places refl,
+  )
+
+  -- ---- 33
+  -- by the exact amount between them, for the low start
+  ordered : (x : ℕ) → x ≤ job .last → shown job weights lent x .low ≤ℤ shown job weights lent x .high
+  ordered x l =
+      let s = whole (pos (job .start .low)) in
+      let t : s ≼ whole (pos (job .start .high)) = whole-mono (omega (signed, limits job weights lent ok .start-order)) in
+      let between = encloses job weights lent ok (accepted-divisible job weights lent ok) x l s (≼-refl s) t in
+      le-of-whole (≼-trans (between .0) (between .1))
+
+  entry-small : (x : ℕ) → x < places → Small (shown job weights lent x)
+  entry-small x l = subst Small (sym (shows job weights lent ok x (omega arith)))
+      (small job weights (limits job weights lent ok) 0 x (limits job weights lent ok .law .order-least) (no-fault job weights lent ok x l))
+
+  right-entry : (x : ℕ) → x < places → wrongAt low high x ≡ false
+  right-entry x l =
+      rw (getD-take, getD-take, le-ltb _ _ (entry-small x l .low), le-ltb _ _ (entry-small x l .high), ≤ℤ-ltZ _ _ (ordered x (omega arith)))
+
+  right-entries : smallest (wrongAt low high) (length low) ≡ length low
+  right-entries = smallest-is _ _ _ (NL.le-refl _) (λ x l. right-entry x (rw low-length at l)) (λ l. absurd (NL.lt-irrefl _ l))
+
+  -- ---- so the level's two conditions are left
+  level-alone : (level : ℤ) → quantiles low high level .answer
+      ≡ firstOf (condition (wrongLevel level) 32 0 ∷ condition (eqb (quantileOf low level) (length low)) 34 0 ∷ [])
+  unfolding quantiles firstOf
+  level-alone level = rw (right-lengths, le-ltb _ _ (NL.le-of-eq (sym right-entries)))
+
+neither : (p q : Bool) → let number = firstOf (condition p 32 0 ∷ condition q 34 0 ∷ []) .number in ¬ (number ≡ 31) × ¬ (number ≡ 33)
+unfolding firstOf
+neither true q = (eqb-false 32 31 refl, eqb-false 32 33 refl)
+neither false true = (eqb-false 34 31 refl, eqb-false 34 33 refl)
+neither false false = (eqb-false 0 31 refl, eqb-false 0 33 refl)
+
+pub rows-not-refused : RowsNotRefused
+rows-not-refused job weights lent ok level = rw (level-alone job weights lent ok level) (neither _ _)
+
+pub encloses-quantile : EnclosesQuantile
+encloses-quantile job weights lent ok h p s t level asked =
+    quantile-enclosed _ _ level (amount job weights h p) asked (enclosed job weights lent ok h p s t)

@@ -1,0 +1,125 @@
+-- Amounts that are larger at each total reach a level no later (`no-later`). The lows, the amounts that the rows enclose and the highs are
+-- in this order, so their quantiles are in the opposite one.
+use mathlib.Core.Path.{_≡_, refl, sym, ap}
+use mathlib.Core.Bool.{true, false}
+use mathlib.Core.List.{List}
+use Prim.Native.Nat.{ℕ, _≤_, _<_}
+use native.Mathlib.Nat as NL
+use native.Mathlib.Decide.{decLe}
+use native.Mathlib.Omega.{arith}
+use borrow.Author.Tests.{ltb-false, eqb-false}
+use lib.IntN.{ℤ, pos}
+use lib.Signed.{leZ}
+use lib.ListN.{length, getD}
+use Rattle.algebra.specs.Fraction.{Fraction, whole, _≼_, zeroTo}
+use Rattle.algebra.proofs.Order.{rewritten}
+use Rattle.algebra.proofs.Smallest.{smallest-finds, least-exists}
+use Rattle.algebra.proofs.Value.{order, value-le, le-of-value, ≼-refl, ≼-trans, ≼-dec, zeroTo-mono, whole-mono, le-of-whole, value-whole-sum}
+use Rattle.model.specs.Answer.{Answer, accepted}
+use Rattle.model.proofs.Answer.{passed as condition-passed}
+use Rattle.quantile.specs.Call.{runningSum, quantileOf, answered, quantiles}
+use Rattle.quantile.specs.Enclosed.{Quantile, entries, Enclose, Accepted, OneQuantile, RowQuantiles, QuantilesInOrder, QuantileEnclosed}
+use Rattle.quantile.proofs.Passed.{Passed, passed}
+
+-- ---- amounts
+-- no sum before total y reaches the level
+abbrev Unreached : (ℕ → Fraction) → ℤ → ℕ → Type 0
+Unreached amount level y = (z : ℕ) → z < y → ¬ (whole level ≼ zeroTo z amount)
+
+no-later : (f g : ℕ → Fraction) (level : ℤ) (x y : ℕ) → ((z : ℕ) → z ≤ x → f z ≼ g z)
+    → whole level ≼ zeroTo x f → Unreached g level y → y ≤ x
+no-later f g level x y larger reached unreached = by (decLe y x)
+  where
+    by : Dec (y ≤ x) → y ≤ x
+    by (yes l) = l
+    by (no l) = absurd (unreached x (omega arith) (≼-trans reached (zeroTo-mono x f g larger)))
+
+pub one-quantile : OneQuantile
+one-quantile amount level x y p q =
+    NL.le-antisymm (no-later amount amount level y x same (q .reached) (p .first)) (no-later amount amount level x y same (p .reached) (q .first))
+  where
+    same : {n : ℕ} (z : ℕ) → z ≤ n → amount z ≼ amount z
+    same z l = ≼-refl (amount z)
+
+-- ---- a row
+module _ (row : List ℤ) (level : ℤ) where
+  row-reaches : (x : ℕ) → leZ level (runningSum row x) ≡ true → whole level ≼ zeroTo x (entries row)
+  row-reaches x e = le-of-value
+      (rewritten order (value-le (whole-mono {a = level} {c = runningSum row x} (record { le = rw e tt }))) refl (value-whole-sum x (λ z. getD row z (pos 0))))
+
+  row-fails : (x : ℕ) → leZ level (runningSum row x) ≡ false → ¬ (whole level ≼ zeroTo x (entries row))
+  row-fails x e h =
+      let le = le-of-whole (le-of-value (rewritten order (value-le h) refl (sym (value-whole-sum x (λ z. getD row z (pos 0)))))) in
+      rw e at (le .le)
+
+  row-at-most : quantileOf row level ≤ length row
+  unfolding quantileOf
+  row-at-most = smallest-finds (λ x. leZ level (runningSum row x)) (length row) .0
+
+  row-reached : quantileOf row level < length row → whole level ≼ zeroTo (quantileOf row level) (entries row)
+  unfolding quantileOf
+  row-reached l = row-reaches _ (smallest-finds (λ x. leZ level (runningSum row x)) (length row) .2 l)
+
+  row-unreached : Unreached (entries row) level (quantileOf row level)
+  unfolding quantileOf
+  row-unreached z l = row-fails z (smallest-finds (λ x. leZ level (runningSum row x)) (length row) .1 z l)
+
+-- ---- an accepted query
+module _ (low high : List ℤ) (level : ℤ) (ok : Accepted low high level) where
+  abbrev sure : ℕ
+  sure = quantileOf low level
+
+  abbrev possible : ℕ
+  possible = quantileOf high level
+
+  -- what the four conditions leave
+  no-condition : Passed low high × ¬ (sure ≡ length low)
+  unfolding quantiles
+  no-condition =
+      let rows = condition-passed _ _ _ _ ok in
+      let level = condition-passed _ _ _ _ (rows .1) in
+      let entry = condition-passed _ _ _ _ (level .1) in
+      let sum = condition-passed _ _ _ _ (entry .1) in
+      (passed low high (rows .0) (ltb-false _ _ (entry .0)), eqb-false _ _ (sum .0))
+
+  totals : quantiles low high level ≡ record { answer = accepted; sure = sure; possible = possible }
+  unfolding quantiles
+  totals = ap (λ (a : Answer). answered a sure possible) ok
+
+  sure-below : sure < length low
+  sure-below = omega (arith, row-at-most low level, no-condition .1)
+
+  reached : whole level ≼ zeroTo sure (entries low)
+  reached = row-reached low level sure-below
+
+  in-order : possible ≤ sure
+  in-order = no-later (entries low) (entries high) level sure possible
+      (λ z l. whole-mono (no-condition .0 .ordered z (omega (arith, sure-below)))) reached (row-unreached high level)
+
+  possible-below : possible < length high
+  possible-below = omega (arith, in-order, sure-below, no-condition .0 .same)
+
+  enclosed : (amount : ℕ → Fraction) → Enclose low high amount → (x : ℕ) × Quantile amount level x × (possible ≤ x) × (x ≤ sure)
+  enclosed amount inside = by (least-exists (λ y. whole level ≼ zeroTo y amount) (λ y. ≼-dec (whole level) (zeroTo y amount)) sure
+      (≼-trans reached (zeroTo-mono sure (entries low) amount (λ z l. inside z (omega (arith, sure-below)) .0))))
+    where
+      by : (x : ℕ) × (x ≤ sure) × (whole level ≼ zeroTo x amount) × Unreached amount level x
+          → (x : ℕ) × Quantile amount level x × (possible ≤ x) × (x ≤ sure)
+      by (x, le, there, before) = (
+        x,
+        record { reached = there; first = before },
+        no-later amount (entries high) level x possible (λ z l. inside z (omega (arith, sure-below)) .1) there (row-unreached high level),
+        le,
+      )
+
+pub row-quantiles : RowQuantiles
+row-quantiles low high level ok = rw (totals low high level ok) (
+  record { reached = reached low high level ok; first = row-unreached low level },
+  record { reached = row-reached high level (possible-below low high level ok); first = row-unreached high level },
+)
+
+pub quantiles-in-order : QuantilesInOrder
+quantiles-in-order low high level ok = rw (totals low high level ok) (in-order low high level ok, sure-below low high level ok)
+
+pub quantile-enclosed : QuantileEnclosed
+quantile-enclosed low high level amount ok inside = rw (totals low high level ok) (enclosed low high level ok amount inside)
