@@ -1,6 +1,6 @@
-"""Sets the calls in crates/cases/specs/Cases.antt beside outward.py and sheet.py, and the lows and highs of curves beside the exact amounts
-of exact.py. Every row must be known here, and agree. What the table's words stand for (the lent rows, the paper's sheet with two lines left
-open) is written here once more."""
+"""Sets the calls in crates/cases/specs/Cases.antt beside outward.py, sheet.py and level.py, and the lows and highs of curves beside the exact
+amounts of exact.py. Every row must be known here, and agree. What the table's words stand for (the lent rows, the paper's sheet with two
+lines left open) is written here once more."""
 import pathlib
 import re
 import sys
@@ -9,6 +9,7 @@ from fractions import Fraction
 from typing import NamedTuple
 
 import exact
+import level
 from outward import Job, Lent, curve
 from sheet import NO_JOB, read_sheet
 
@@ -30,6 +31,14 @@ class Sheet(NamedTuple):
     job: Job
     after: list
     word: bytes
+
+
+class Level(NamedTuple):
+    """A row on the level query."""
+    low: list
+    high: list
+    level: int
+    answer: level.Answer
 
 
 def law(k, D, A, B):
@@ -85,6 +94,10 @@ WORDS = {
     "sheet": sheet,
     "acceptance": acceptance,
     "refusal": refusal,
+    "replicate": lambda count, value: [value] * count,
+    "level": Level,
+    "totals": lambda sure, possible: level.Answer(0, 0, sure, possible),
+    "none": lambda number, place: level.Answer(number, place, 0, 0),
 }
 
 
@@ -147,6 +160,12 @@ def sheet_differences(row):
         yield f"the table has {row}, the calculator {told}"
 
 
+def level_differences(row):
+    answer = level.level_query(row.low, row.high, row.level)
+    if answer != row.answer:
+        yield f"the table has {row.answer}, the calculator {answer}"
+
+
 def outside(row):
     """Exact amounts outside low to high, for both starts and one between; and gaps above their bound."""
     job, answer, after = row
@@ -166,6 +185,8 @@ def outside(row):
 def differences(row):
     if isinstance(row, Sheet):
         return list(sheet_differences(row))
+    if isinstance(row, Level):
+        return list(level_differences(row))
     return list(curve_differences(row)) or list(outside(row))
 
 
@@ -180,7 +201,7 @@ def main():
     accepted = sum(isinstance(row, Curve) and row.answer == (0, 0) for row in rows)
     print(f"the paper's cases: {len(rows)} rows set beside the calculator, {accepted} of them with exact amounts, {wrong} differ")
     kinds = Counter(map(type, rows))
-    if wrong or kinds[Curve] < 13 or kinds[Sheet] < 5:
+    if wrong or kinds[Curve] < 13 or kinds[Sheet] < 5 or kinds[Level] < 11:
         sys.exit(1)
 
 

@@ -16,13 +16,14 @@ use Rattle.model.specs.Answer.{Answer, refused, firstOf}
 use Rattle.enclosure.specs.Entry.{scaled, rounded}
 use Rattle.compound.specs.Curve.{factor, sumsZero, sumsNext, entryAt, withNext, history, curveRows}
 use Rattle.compound.specs.Call.{Lent, lentRows, firstFault, curveAnswer, rowAfter, curveLent}
+use Rattle.quantile.specs.Call.{Quantiles, quantileOf, quantiles}
 use Rattle.text.specs.Lines.{before, after, has, afterLines, longer, words}
 use Rattle.text.specs.Numbers.{valueFrom, number}
 use Rattle.sheet.specs.Line.{allNumbers, line}
 use Rattle.sheet.specs.Reading.{weightLines, severityLine, lastLine, startLine, termLines, lawLine, reading}
 use Rattle.sheet.specs.Call.{Told, told, rowOnReturn, firstNoNumber, faultyWord}
-use Rattle.cases.specs.Cases.{Case, curve, reader, Holds, cases, CasesHold, test}
-use Rattle.cases.specs.Cases.{numbers, sameAnswer, sameRow, rows, sameLent, wholeNumbers, terms, sameBytes, sameTold}
+use Rattle.cases.specs.Cases.{Case, curve, reader, level, Holds, cases, CasesHold, test}
+use Rattle.cases.specs.Cases.{numbers, sameAnswer, sameRow, rows, sameLent, wholeNumbers, terms, sameBytes, sameTold, queryNumbers, sameQuantiles}
 
 same-answer : Equates Answer sameAnswer
 same-answer x y t = ap (λ l. refused (getD l 0 0) (getD l 1 0)) (same-list ℕ eqb eqb→eq (numbers x) (numbers y) t)
@@ -68,6 +69,11 @@ same-told x y t =
     weights : Bool
     weights = sameBytes (x .weights) (y .weights)
 
+same-quantiles : Equates Quantiles sameQuantiles
+same-quantiles x y t =
+    ap (λ l. record { answer = refused (getD l 0 0) (getD l 1 0); sure = getD l 2 0; possible = getD l 3 0 })
+    (same-bytes (queryNumbers x) (queryNumbers y) t)
+
 -- a row that passes the test holds
 sound : (c : Case) → T (test c) → Holds c
 sound (curve job weights lent answer after) t = (
@@ -95,10 +101,12 @@ sound (reader s row says after word) t =
 
     handed : Bool
     handed = sameBytes (faultyWord (length row) s) word
+sound (level low high L answer) t = same-quantiles (quantiles low high L) answer t
 
 pub cases-hold : CasesHold
 unfolding curveAnswer curveLent rowAfter firstFault curveRows history withNext entryAt sumsNext sumsZero factor rounded scaled
     firstOf ceilDiv floorDiv accumulate smallest listed
     reading lawLine termLines startLine lastLine severityLine weightLines line allNumbers firstNoNumber
     number valueFrom words longer afterLines before after has
+    quantiles quantileOf
 cases-hold c m = sound c (each-passes Case test cases tt c m)

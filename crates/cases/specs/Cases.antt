@@ -1,5 +1,5 @@
--- "Cases on each limit", as rows of one table: P1 to P8, P11 and P12, and more of the paper's calls. The numbers are the paper's; what it
--- does not print follows from its rules, and calculator/check_paper_cases.py works every row out apart from these definitions.
+-- "Cases on each limit", P1 to P12, as rows of one table, and more of the paper's calls. The numbers are the paper's; what it does not print
+-- follows from its rules, and calculator/check_paper_cases.py works every row out apart from these definitions.
 use mathlib.Core.Path.{_≡_}
 use mathlib.Core.Bool.{Bool, _&&_}
 use mathlib.Core.List.{List, [], _∷_, _++_, map, List·Memᴰ}
@@ -14,6 +14,7 @@ use Rattle.model.specs.declared.Start.{Start}
 use Rattle.model.specs.declared.Job.{Job}
 use Rattle.model.specs.Answer.{Answer, accepted, refused}
 use Rattle.compound.specs.Call.{Lent, lentRows, curveAnswer, curveLent}
+use Rattle.quantile.specs.Call.{Quantiles, quantiles}
 use Rattle.text.specs.Bytes.{ascii}
 use Rattle.sheet.specs.Reading.{reading}
 use Rattle.sheet.specs.Call.{Told, told, rowOnReturn, faultyWord}
@@ -24,12 +25,15 @@ pub data Case : Type 0 where
   curve : Job → List ℕ → Lent → Answer → Lent → Case
   -- the sheet's bytes and the lent row at entry, what the reader tells, the row on return, the faulty word
   reader : List ℕ → List ℕ → Told → List ℕ → List ℕ → Case
+  -- the low row, the high row and the level, the answer with its two totals
+  level : List ℤ → List ℤ → ℤ → Quantiles → Case
 
 -- what a row claims
 abbrev pub Holds : Case → Type 0
 Holds (curve job weights lent answer after) = (curveAnswer job weights lent ≡ answer) × (curveLent job weights lent ≡ after)
 Holds (reader s row says after word) =
     (told (reading (length row) s) ≡ says) × (rowOnReturn (reading (length row) s) row ≡ after) × (faultyWord (length row) s ≡ word)
+Holds (level low high L answer) = quantiles low high L ≡ answer
 
 -- ---- jobs
 -- terms that are not written are zero
@@ -89,6 +93,15 @@ refusal s number line word =
     reader s places (record { answer = refused number line; job = job (law 0 0 [] []) (start 0 0) 0; count = 0; weights = [] }) places
     (ascii word)
 
+-- ---- level queries
+-- "Otherwise two totals"
+abbrev totals : (sure possible : ℕ) → Quantiles
+totals sure possible = record { answer = accepted; sure = sure; possible = possible }
+
+-- a refusal's totals are 0
+abbrev none : (number place : ℕ) → Quantiles
+none number place = record { answer = refused number place; sure = 0; possible = 0 }
+
 -- ---- the table of cases
 abbrev call : (job : Job) (weights : List ℕ) (answer : Answer) (after : ℕ → Lent) → Case
 call job weights answer after = curve job weights (lentFor (job .last)) answer (after (job .last))
@@ -100,11 +113,14 @@ abbrev jobP1 : Job
 jobP1 = job (law 1 1 (pos 0 ∷ []) (pos 1 ∷ [])) (start 367879441 367879442) 3
 
 -- P1, as the program writes it
+abbrev lowP1 : List ℤ
+lowP1 = map pos (367879441 ∷ 183939720 ∷ 229924650 ∷ 99634015 ∷ [])
+
+abbrev highP1 : List ℤ
+highP1 = map pos (367879442 ∷ 183939721 ∷ 229924652 ∷ 99634016 ∷ [])
+
 abbrev rowsP1 : (X : ℕ) → Lent
-rowsP1 = holding
-    (map pos (367879441 ∷ 183939720 ∷ 229924650 ∷ 99634015 ∷ []))
-    (map pos (367879442 ∷ 183939721 ∷ 229924652 ∷ 99634016 ∷ []))
-    (map pos (1 ∷ 2 ∷ 2 ∷ 2 ∷ []))
+rowsP1 = holding lowP1 highP1 (map pos (1 ∷ 2 ∷ 2 ∷ 2 ∷ []))
 
 -- P2: "k 1, D 1, A -1, B 3, start 250000000 twice"
 abbrev lawP2 : Law
@@ -162,6 +178,23 @@ cases =
     ∷ refusal (sheet "TERM 0 1" "W  1") 23 6 ""
     -- "bytes after the last `W` line give 26"
     ∷ refusal (sheet "TERM 0 1" "W 1\nW 1") 26 8 ""
+    -- P9: "rows of P1, L 500000000: sure 1, possible 1"
+    ∷ level lowP1 highP1 (pos 500000000) (totals 1 1)
+    -- P10: "L 900000000: 34"
+    ∷ level lowP1 highP1 (pos 900000000) (none 34 0)
+    -- at total 1 the lows have 551819161 together, the highs 551819163
+    ∷ level lowP1 highP1 (pos 551819163) (totals 2 1)
+    -- "rows empty, unequal in length or longer than 501"; 31 comes before 32
+    ∷ level [] [] (pos 0) (none 31 0)
+    ∷ level lowP1 [] (pos 500000000) (none 31 0)
+    ∷ level (replicate 502 (pos 1)) (replicate 502 (pos 1)) (pos 1) (none 31 0)
+    -- "L not 1 to U"; 32 comes before 33
+    ∷ level highP1 lowP1 (pos 0) (none 32 0)
+    ∷ level lowP1 highP1 (pos 1000000001) (none 32 0)
+    -- "at the smallest place x, an entry outside -2U to 2U or low above high"; 33 comes before 34, and 2U itself is no fault
+    ∷ level (pos 0 ∷ negℤ (pos 2000000001) ∷ pos 1 ∷ []) (pos 0 ∷ pos 0 ∷ pos 0 ∷ []) (pos 1) (none 33 1)
+    ∷ level (pos 0 ∷ pos 1 ∷ pos 1 ∷ []) (pos 0 ∷ pos 0 ∷ pos 2000000001 ∷ []) (pos 1) (none 33 1)
+    ∷ level (negℤ (pos 2000000000) ∷ pos 2000000000 ∷ []) (pos 2000000000 ∷ pos 2000000000 ∷ []) (pos 1000000000) (none 34 0)
     ∷ []
 
 -- the one claim
@@ -200,9 +233,17 @@ abbrev pub sameTold : Told → Told → Bool
 sameTold x y =
     sameBytes (wholeNumbers x) (wholeNumbers y) && (sameList sameRow (terms x) (terms y) && sameBytes (x .weights) (y .weights))
 
+-- a query's answer, as a list
+abbrev pub queryNumbers : Quantiles → List ℕ
+queryNumbers x = x .answer .number ∷ x .answer .place ∷ x .sure ∷ x .possible ∷ []
+
+abbrev pub sameQuantiles : Quantiles → Quantiles → Bool
+sameQuantiles x y = sameBytes (queryNumbers x) (queryNumbers y)
+
 abbrev pub test : Case → Bool
 test (curve job weights lent answer after) =
     sameAnswer (curveAnswer job weights lent) answer && sameLent (curveLent job weights lent) after
 test (reader s row says after word) =
     sameTold (told (reading (length row) s)) says
     && (sameBytes (rowOnReturn (reading (length row) s) row) after && sameBytes (faultyWord (length row) s) word)
+test (level low high L answer) = sameQuantiles (quantiles low high L) answer
