@@ -17,3 +17,10 @@ typedef struct {
 } PlainSheet;
 
 PlainSheet plain_reader(const uint8_t *sheet, size_t length, uint64_t *row, size_t places);
+
+// `number` is 0 for an acceptance. After a refusal both totals are 0.
+typedef struct {
+    uint64_t number, place, sure, possible;
+} PlainTotals;
+
+PlainTotals plain_level(const int64_t *low, size_t low_len, const int64_t *high, size_t high_len, int64_t level);

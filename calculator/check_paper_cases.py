@@ -1,6 +1,6 @@
-"""Sets the calls in crates/cases/specs/Cases.antt beside outward.py, sheet.py and level.py, and the lows and highs of curves beside the exact
-amounts of exact.py. Every row must be known here, and agree. What the table's words stand for (the lent rows, the paper's sheet with two
-lines left open) is written here once more."""
+"""Sets the calls in crates/cases/specs/Cases.antt beside outward.py, sheet.py and level.py, and the lows and highs of curves beside the
+exact amounts of exact.py. Every row must be known here, and agree. What the table's words stand for (the lent rows, the paper's sheet with
+two lines left open) is written here once more."""
 import pathlib
 import re
 import sys

@@ -1,4 +1,4 @@
--- What an acceptance says: every check was passed, no entry has a fault, so the lent rows hold row 0 of the curve, and are long enough for it.
+-- What an acceptance says: every check was passed and no entry has a fault, so the lent rows are long enough, and hold row 0 of the curve.
 use mathlib.Core.Path.{_≡_, _∙_, ap}
 use mathlib.Core.Bool.{Bool, cond}
 use mathlib.Core.List.{List}

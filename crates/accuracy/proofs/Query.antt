@@ -7,13 +7,11 @@ use Prim.Native.Nat.{ℕ, _+_, _≤_, _<_}
 use native.Mathlib.Nat as NL
 use native.Mathlib.Omega.{arith}
 use borrow.Author.Tests.{le-ltb, eq-eqb, eqb-false}
-use lib.Dec.{eqb}
 use lib.IntN.{ℤ, pos}
 use lib.Signed.{_≤ℤ_}
-use lib.ListN.{length, getD}
+use lib.ListN.{length}
 use lib.Seq.{getD-take, length-take-le}
 use Rattle.algebra.specs.Fraction.{Fraction, whole, _≼_}
-use Rattle.algebra.specs.Smallest.{smallest}
 use Rattle.algebra.proofs.Integer.{signed, ≤ℤ-ltZ}
 use Rattle.algebra.proofs.Smallest.{smallest-is}
 use Rattle.algebra.proofs.Value.{≼-refl, ≼-trans, whole-mono, le-of-whole}
@@ -23,7 +21,7 @@ use Rattle.model.proofs.Answer.{inside}
 use Rattle.enclosure.specs.Term.{Small}
 use Rattle.compound.specs.Call.{Lent, curveLent}
 use Rattle.compound.proofs.Filled.{small}
-use Rattle.quantile.specs.Call.{quantileOf, wrongLengths, wrongLevel, wrongAt, quantiles}
+use Rattle.quantile.specs.Call.{wrongLengths, wrongLevel, wrongAt, firstWrong, unreached, quantiles}
 use Rattle.quantile.specs.Enclosed.{Enclose}
 use Rattle.quantile.proofs.Enclosed.{quantile-enclosed}
 use Rattle.accuracy.specs.Accuracy.{Accepted, Divisible, shown, amount}
@@ -77,17 +75,19 @@ module _ (job : Job) (weights : List ℕ) (lent : Lent) (ok : Accepted job weigh
 
   right-entry : (x : ℕ) → x < places → wrongAt low high x ≡ false
   right-entry x l =
-      rw (getD-take, getD-take, le-ltb _ _ (entry-small x l .low), le-ltb _ _ (entry-small x l .high), ≤ℤ-ltZ _ _ (ordered x (omega arith)))
+      let small = entry-small x l in
+      simp (getD-take, le-ltb _ _ (small .low), le-ltb _ _ (small .high), ≤ℤ-ltZ _ _ (ordered x (omega arith)))
 
-  right-entries : smallest (wrongAt low high) (length low) ≡ length low
+  right-entries : firstWrong low high ≡ length low
   right-entries = smallest-is _ _ _ (NL.le-refl _) (λ x l. right-entry x (rw low-length at l)) (λ l. absurd (NL.lt-irrefl _ l))
 
   -- ---- so the level's two conditions are left
   level-alone : (level : ℤ) → quantiles low high level .answer
-      ≡ firstOf (condition (wrongLevel level) 32 0 ∷ condition (eqb (quantileOf low level) (length low)) 34 0 ∷ [])
+      ≡ firstOf (condition (wrongLevel level) 32 0 ∷ condition (unreached low level) 34 0 ∷ [])
   unfolding quantiles firstOf
   level-alone level = rw (right-lengths, le-ltb _ _ (NL.le-of-eq (sym right-entries)))
 
+-- which refuse by 32 or by 34
 neither : (p q : Bool) → let number = firstOf (condition p 32 0 ∷ condition q 34 0 ∷ []) .number in ¬ (number ≡ 31) × ¬ (number ≡ 33)
 unfolding firstOf
 neither true q = (eqb-false 32 31 refl, eqb-false 32 33 refl)

@@ -151,7 +151,7 @@ pub zeroTo-mono : (n : ℕ) (f g : ℕ → Fraction) → ((i : ℕ) → i ≤ n 
 zeroTo-mono n f g h = le-of-value (rewritten order (sum-mono order (suc n) (λ i l. value-le (h i (omega arith))))
     (sym (value-zeroTo n f)) (sym (value-zeroTo n g)))
 
--- whole numbers: their order, and their sum
+-- whole numbers: their order, also to a sum
 pub whole-mono : {a c : ℤ} → a ≤ℤ c → whole a ≼ whole c
 unfolding whole over
 whole-mono h = record { across = *ℤ-mono 1 h }
@@ -160,7 +160,13 @@ pub le-of-whole : {a c : ℤ} → whole a ≼ whole c → a ≤ℤ c
 unfolding whole over
 le-of-whole h = *ℤ-cancel-le 1 (NL.le-refl 1) (h .across)
 
-pub value-whole-sum : (n : ℕ) (f : ℕ → ℤ) → value (whole (sumℤ (suc n) f)) ≡ value (zeroTo n (λ i. whole (f i)))
-value-whole-sum n f = sum-related (λ (z : ℤ) (v : A). value (whole z) ≡ v) (pos 0) _+ℤ_ 𝟘 _⊹_ value-zero
+whole-sum : (n : ℕ) (f : ℕ → ℤ) → value (whole (sumℤ (suc n) f)) ≡ value (zeroTo n (λ i. whole (f i)))
+whole-sum n f = sum-related (λ (z : ℤ) (v : A). value (whole z) ≡ v) (pos 0) _+ℤ_ 𝟘 _⊹_ value-zero
     (λ a c u v p q. value-add a c ∙ ap₂ _⊹_ p q) (suc n) f (λ i. value (whole (f i))) (λ i l. refl)
     ∙ sym (value-zeroTo n (λ i. whole (f i)))
+
+pub whole-sum-mono : (a : ℤ) (n : ℕ) (f : ℕ → ℤ) → a ≤ℤ sumℤ (suc n) f → whole a ≼ zeroTo n (λ i. whole (f i))
+whole-sum-mono a n f h = le-of-value (rewritten order (value-le (whole-mono h)) refl (whole-sum n f))
+
+pub le-of-whole-sum : (a : ℤ) (n : ℕ) (f : ℕ → ℤ) → whole a ≼ zeroTo n (λ i. whole (f i)) → a ≤ℤ sumℤ (suc n) f
+le-of-whole-sum a n f h = le-of-whole (le-of-value (rewritten order (value-le h) refl (sym (whole-sum n f))))

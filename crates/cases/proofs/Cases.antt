@@ -23,7 +23,8 @@ use Rattle.sheet.specs.Line.{allNumbers, line}
 use Rattle.sheet.specs.Reading.{weightLines, severityLine, lastLine, startLine, termLines, lawLine, reading}
 use Rattle.sheet.specs.Call.{Told, told, rowOnReturn, firstNoNumber, faultyWord}
 use Rattle.cases.specs.Cases.{Case, curve, reader, level, Holds, cases, CasesHold, test}
-use Rattle.cases.specs.Cases.{numbers, sameAnswer, sameRow, rows, sameLent, wholeNumbers, terms, sameBytes, sameTold, queryNumbers, sameQuantiles}
+use Rattle.cases.specs.Cases.{numbers, sameAnswer, sameRow, rows, sameLent, wholeNumbers, terms, sameBytes, sameTold}
+use Rattle.cases.specs.Cases.{queryNumbers, sameQuantiles}
 
 same-answer : Equates Answer sameAnswer
 same-answer x y t = ap (λ l. refused (getD l 0 0) (getD l 1 0)) (same-list ℕ eqb eqb→eq (numbers x) (numbers y) t)

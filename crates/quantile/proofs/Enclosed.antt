@@ -1,6 +1,6 @@
 -- Amounts that are larger at each total reach a level no later (`no-later`). The lows, the amounts that the rows enclose and the highs are
 -- in this order, so their quantiles are in the opposite one.
-use mathlib.Core.Path.{_≡_, refl, sym, ap}
+use mathlib.Core.Path.{_≡_, ap}
 use mathlib.Core.Bool.{true, false}
 use mathlib.Core.List.{List}
 use Prim.Native.Nat.{ℕ, _≤_, _<_}
@@ -12,13 +12,13 @@ use lib.IntN.{ℤ, pos}
 use lib.Signed.{leZ}
 use lib.ListN.{length, getD}
 use Rattle.algebra.specs.Fraction.{Fraction, whole, _≼_, zeroTo}
-use Rattle.algebra.proofs.Order.{rewritten}
 use Rattle.algebra.proofs.Smallest.{smallest-finds, least-exists}
-use Rattle.algebra.proofs.Value.{order, value-le, le-of-value, ≼-refl, ≼-trans, ≼-dec, zeroTo-mono, whole-mono, le-of-whole, value-whole-sum}
+use Rattle.algebra.proofs.Value.{≼-refl, ≼-trans, ≼-dec, zeroTo-mono, whole-mono, whole-sum-mono, le-of-whole-sum}
 use Rattle.model.specs.Answer.{Answer, accepted}
 use Rattle.model.proofs.Answer.{passed as condition-passed}
 use Rattle.quantile.specs.Call.{runningSum, quantileOf, answered, quantiles}
-use Rattle.quantile.specs.Enclosed.{Quantile, entries, Enclose, Accepted, OneQuantile, RowQuantiles, QuantilesInOrder, QuantileEnclosed}
+use Rattle.quantile.specs.Enclosed.{Quantile, entries, Enclose, Accepted}
+use Rattle.quantile.specs.Enclosed.{OneQuantile, RowQuantiles, QuantilesInOrder, QuantileEnclosed}
 use Rattle.quantile.proofs.Passed.{Passed, passed}
 
 -- ---- amounts
@@ -35,22 +35,18 @@ no-later f g level x y larger reached unreached = by (decLe y x)
     by (no l) = absurd (unreached x (omega arith) (≼-trans reached (zeroTo-mono x f g larger)))
 
 pub one-quantile : OneQuantile
-one-quantile amount level x y p q =
-    NL.le-antisymm (no-later amount amount level y x same (q .reached) (p .first)) (no-later amount amount level x y same (p .reached) (q .first))
+one-quantile amount level x y p q = NL.le-antisymm (at-most q p) (at-most p q)
   where
-    same : {n : ℕ} (z : ℕ) → z ≤ n → amount z ≼ amount z
-    same z l = ≼-refl (amount z)
+    at-most : {i j : ℕ} → Quantile amount level i → Quantile amount level j → j ≤ i
+    at-most {i} {j} p q = no-later amount amount level i j (λ z l. ≼-refl (amount z)) (p .reached) (q .first)
 
 -- ---- a row
 module _ (row : List ℤ) (level : ℤ) where
   row-reaches : (x : ℕ) → leZ level (runningSum row x) ≡ true → whole level ≼ zeroTo x (entries row)
-  row-reaches x e = le-of-value
-      (rewritten order (value-le (whole-mono {a = level} {c = runningSum row x} (record { le = rw e tt }))) refl (value-whole-sum x (λ z. getD row z (pos 0))))
+  row-reaches x e = whole-sum-mono level x (λ z. getD row z (pos 0)) (record { le = rw e tt })
 
   row-fails : (x : ℕ) → leZ level (runningSum row x) ≡ false → ¬ (whole level ≼ zeroTo x (entries row))
-  row-fails x e h =
-      let le = le-of-whole (le-of-value (rewritten order (value-le h) refl (sym (value-whole-sum x (λ z. getD row z (pos 0)))))) in
-      rw e at (le .le)
+  row-fails x e h = rw e at (le-of-whole-sum level x (λ z. getD row z (pos 0)) h .le)
 
   row-at-most : quantileOf row level ≤ length row
   unfolding quantileOf

@@ -9,14 +9,13 @@ use lib.Dec.{eqb}
 use lib.IntN.{ℤ, pos, natAbs}
 use lib.Signed.{ltZ, _≤ℤ_}
 use lib.ListN.{length, getD}
-use Rattle.algebra.specs.Smallest.{smallest}
 use Rattle.algebra.proofs.Integer.{≤ℤ-of-ltZ}
 use Rattle.algebra.proofs.Or.{or-left, or-right}
 use Rattle.algebra.proofs.Smallest.{smallest-finds}
 use Rattle.model.specs.Answer.{outside}
 use Rattle.model.proofs.Answer.{within}
 use Rattle.enclosure.specs.Entry.{unit, beyond}
-use Rattle.quantile.specs.Call.{wrongLengths, wrongEntry, wrongAt}
+use Rattle.quantile.specs.Call.{wrongLengths, wrongEntry, wrongAt, firstWrong}
 use Rattle.quantile.specs.Room.{Summable}
 
 -- 31
@@ -43,7 +42,7 @@ pub record Passed (low high : List ℤ) : Type 0 where
   pub ordered : (x : ℕ) → x < length low → getD low x (pos 0) ≤ℤ getD high x (pos 0)
 
 pub passed : (low high : List ℤ) → wrongLengths (length low) (length high) ≡ false
-    → length low ≤ smallest (wrongAt low high) (length low) → Passed low high
+    → length low ≤ firstWrong low high → Passed low high
 passed low high lengths none = record {
   low-room = record { short = short-enough _ _ lengths; small = λ x l. entries x l .0 };
   high-room = record { short = rw (sym same) (short-enough _ _ lengths); small = λ x l. entries x (rw (sym same) at l) .1 };

@@ -38,8 +38,8 @@ paper (Refused reason place) = record { answer = refused (numberOf reason) place
 abbrev pub runningSum : List ℤ → ℕ → ℤ
 runningSum row x = sumℤ (suc x) (λ z. getD row z (pos 0))
 
--- the smallest total whose sum "reaches L", and the row's length where no total has one; on the lows this is the paper's "sure", on the
--- highs its "possible"
+-- "the smallest whose sum .. reaches L", and the row's length where there is none: on the lows the paper's "sure", on the highs its
+-- "possible"
 unfoldable pub quantileOf : List ℤ → ℤ → ℕ
 quantileOf row level = smallest (λ x. leZ level (runningSum row x)) (length row)
 
@@ -59,17 +59,24 @@ wrongEntry low high = beyond (2 * unit) low || beyond (2 * unit) high || ltZ hig
 abbrev pub wrongAt : List ℤ → List ℤ → ℕ → Bool
 wrongAt low high x = wrongEntry (getD low x (pos 0)) (getD high x (pos 0))
 
+-- "the smallest place x" with such an entry, and the rows' length where there is none
+abbrev pub firstWrong : List ℤ → List ℤ → ℕ
+firstWrong low high = smallest (wrongAt low high) (length low)
+
 -- 34: "no total has a sum of lows, from 0 to it, of L or more"
+abbrev pub unreached : List ℤ → ℤ → Bool
+unreached low level = eqb (quantileOf low level) (length low)
+
 abbrev pub checks : List ℤ → List ℤ → ℤ → List Condition
 checks low high level =
     condition (wrongLengths (length low) (length high)) 31 0
     ∷ condition (wrongLevel level) 32 0
-    ∷ condition (ltb (smallest (wrongAt low high) (length low)) (length low)) 33 (smallest (wrongAt low high) (length low))
-    ∷ condition (eqb (quantileOf low level) (length low)) 34 0
+    ∷ condition (ltb (firstWrong low high) (length low)) 33 (firstWrong low high)
+    ∷ condition (unreached low level) 34 0
     ∷ []
 
 -- ---- the call
--- the totals of an acceptance; after a refusal they are 0
+-- the totals count where the answer is an acceptance
 abbrev pub answered : Answer → ℕ → ℕ → Quantiles
 answered answer sure possible =
     record { answer = answer; sure = cond (isAccepted answer) sure 0; possible = cond (isAccepted answer) possible 0 }

@@ -4,13 +4,12 @@ use enclosure::rule::is_either_beyond;
 use model::is_outside;
 ghost use mathlib.Core.Path.{_≡_};
 ghost use lib.ListN.{length};
-ghost use Rattle.algebra.specs.Smallest.{smallest};
-ghost use Rattle.quantile.specs.Call.{wrongLengths, wrongLevel, wrongEntry, wrongAt};
+ghost use Rattle.quantile.specs.Call.{wrongLengths, wrongLevel, wrongEntry, firstWrong};
 
 // U, which stands for chance 1.
 const UNIT: i64 = 1_000_000_000;
 
-// By the lengths of the two rows.
+// Whether rows of these lengths are empty, too long or unequal.
 pub fn are_wrong_rows(low: usize, high: usize) -> bool
     ensures { λ r. ⌜ r ≡ wrongLengths low high ⌝ }
 {
@@ -32,7 +31,7 @@ fn is_wrong_entry(low: i64, high: i64) -> bool
 // The first place with a wrong entry, and the rows' length where there is none.
 pub fn first_wrong_entry(low: &[i64], high: &[i64]) -> usize
     requires { ⌜ length (now low) ≡ length (now high) ⌝ }
-    ensures { λ r. ⌜ r ≡ smallest (wrongAt (now (low .entry)) (now (high .entry))) (length (now (low .entry))) ⌝ }
+    ensures { λ r. ⌜ r ≡ firstWrong (now (low .entry)) (now (high .entry)) ⌝ }
 {
     for x in 0..low.len() {
         if is_wrong_entry(low[x], high[x]) {

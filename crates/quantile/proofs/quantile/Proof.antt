@@ -7,10 +7,9 @@ use mathlib.Core.List.{List, []}
 use Prim.Native.Nat.{ℕ, _≤_}
 use lib.ListN.{length, drop}
 use mir.Facts.{toZ-ofZ}
-use Rattle.algebra.specs.Smallest.{smallest}
 use Rattle.model.specs.Answer.{Answer, Condition, firstOf}
 use Rattle.model.proofs.Answer.{first-none, first-holds, first-fails}
-use Rattle.quantile.specs.Call.{Quantiles, quantileOf, wrongLengths, wrongLevel, wrongAt, checks, answered, quantiles}
+use Rattle.quantile.specs.Call.{Quantiles, quantileOf, wrongLengths, wrongLevel, firstWrong, checks, answered, quantiles}
 use Rattle.quantile.proofs.Passed.{Passed, same-length, passed}
 use Rattle.quantile.proofs.quantile.Statement.{statement}
 use Rattle.quantile.proofs.quantile.Tie as tie
@@ -66,8 +65,7 @@ returns-3 c =
 abbrev start : tie.Else3 → tie.Start
 start c = c .before .before .before .before .before .before
 
-none-wrong : (c : tie.Else3) → let a = start c .args in
-    length (a .low .now) ≤ smallest (wrongAt (a .low .now) (a .high .now)) (length (a .low .now))
+none-wrong : (c : tie.Else3) → let a = start c .args in length (a .low .now) ≤ firstWrong (a .low .now) (a .high .now)
 none-wrong c = rw (c .before .first-wrong-entry .ensures) at (c .if3 .left)
 
 left-3 : (c : tie.Else3) → Left 3 (start c)
