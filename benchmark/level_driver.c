@@ -1,5 +1,5 @@
 // Runs the proved level query and the plain one on rows of 501 places, where both totals are the last: `level WHICH TIMES`, with WHICH as
-// in timing.h. `both` first compares what they answer, on these rows cut short or changed at one place, and at several levels.
+// in timing.h. `both` first compares what they answer, on these rows with other lengths or changed at one place, at several levels.
 #include <stdint.h>
 #include <stdio.h>
 #include <stdlib.h>
@@ -38,12 +38,17 @@ static void make_rows(void) {
     low_len = high_len = PLACES;
 }
 
+static void print(const char *which, PlainTotals said) {
+    printf("the answers differ: %s %lu at %lu, totals %lu and %lu\n", which, (unsigned long)said.number, (unsigned long)said.place,
+           (unsigned long)said.sure, (unsigned long)said.possible);
+}
+
 static void compare(void) {
     call_proved();
     call_plain();
     if (memcmp(&proved, &plain, sizeof proved) == 0) return;
-    printf("the answers differ: proved %lu at %lu, plain C %lu at %lu\n", (unsigned long)proved.number, (unsigned long)proved.place,
-           (unsigned long)plain.number, (unsigned long)plain.place);
+    print("proved", proved);
+    print("plain C", plain);
     exit(1);
 }
 
@@ -58,7 +63,12 @@ static void compare_all(void) {
         exit(1);
     }
     for (low_len = 0; low_len <= PLACES + 1; low_len++) {
-        for (high_len = low_len ? low_len - 1 : 0; high_len <= low_len + 1 && high_len <= PLACES + 1; high_len++) compare();
+        for (high_len = low_len ? low_len - 1 : 0; high_len <= low_len + 1 && high_len <= PLACES + 1; high_len++) {
+            for (size_t i = 0; i < level_count; i++) {
+                level = levels[i];
+                compare();
+            }
+        }
     }
     for (size_t x = 0; x < PLACES; x++) {
         for (size_t i = 0; i < count * count; i++) {

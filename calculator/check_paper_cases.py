@@ -9,7 +9,7 @@ from fractions import Fraction
 from typing import NamedTuple
 
 import exact
-import level
+from level import Answer as Totals, level_query
 from outward import Job, Lent, curve
 from sheet import NO_JOB, read_sheet
 
@@ -38,7 +38,7 @@ class Level(NamedTuple):
     low: list
     high: list
     level: int
-    answer: level.Answer
+    answer: Totals
 
 
 def law(k, D, A, B):
@@ -96,8 +96,8 @@ WORDS = {
     "refusal": refusal,
     "replicate": lambda count, value: [value] * count,
     "level": Level,
-    "totals": lambda sure, possible: level.Answer(0, 0, sure, possible),
-    "none": lambda number, place: level.Answer(number, place, 0, 0),
+    "totals": lambda sure, possible: Totals(0, 0, sure, possible),
+    "noTotals": lambda number, place: Totals(number, place, 0, 0),
 }
 
 
@@ -161,7 +161,7 @@ def sheet_differences(row):
 
 
 def level_differences(row):
-    answer = level.level_query(row.low, row.high, row.level)
+    answer = level_query(row.low, row.high, row.level)
     if answer != row.answer:
         yield f"the table has {row.answer}, the calculator {answer}"
 
@@ -201,7 +201,7 @@ def main():
     accepted = sum(isinstance(row, Curve) and row.answer == (0, 0) for row in rows)
     print(f"the paper's cases: {len(rows)} rows set beside the calculator, {accepted} of them with exact amounts, {wrong} differ")
     kinds = Counter(map(type, rows))
-    if wrong or kinds[Curve] < 13 or kinds[Sheet] < 5 or kinds[Level] < 11:
+    if wrong or kinds[Curve] < 13 or kinds[Sheet] < 5 or kinds[Level] < 13:
         sys.exit(1)
 
 

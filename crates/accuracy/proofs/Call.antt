@@ -42,22 +42,24 @@ module _ (job : Job) (weights : List ℕ) (lent : Lent) (ok : Accepted job weigh
   unfolding curveAnswer curveLent
   lent-ran = ap (λ (t : Bool). cond t (ran job weights lent) lent) (first-passed (checks job weights lent) (faults job weights) tt ok)
 
-  row-listed : (column : Entry → ℤ) → rowAfter column job weights ≡ listed (λ x. column (curveRows job weights 0 x)) (job .last + 1)
+  -- a column of row 0, from total 0 to X
+  abbrev entry : (Entry → ℤ) → ℕ → ℤ
+  entry column x = column (curveRows job weights 0 x)
+
+  abbrev entries : (Entry → ℤ) → List ℤ
+  entries column = listed (entry column) (job .last + 1)
+
+  row-listed : (column : Entry → ℤ) → rowAfter column job weights ≡ entries column
   unfolding rowAfter
   row-listed column = rw (passed .2)
 
   row-at : (column : Entry → ℤ) (row : List ℤ) (x : ℕ) → x ≤ job .last
-      → getD (written (rowAfter column job weights) row) x (pos 0) ≡ column (curveRows job weights 0 x)
+      → getD (written (rowAfter column job weights) row) x (pos 0) ≡ entry column x
   row-at column row x l =
       ap (λ (front : List ℤ). getD (written front row) x (pos 0)) (row-listed column)
-      ∙ List·getD-append entries (drop (length entries) row) (pos 0) x (omega (arith, listed-length entry (job .last + 1)))
-      ∙ listed-at entry (job .last + 1) x (pos 0) (omega arith)
-    where
-      entry : ℕ → ℤ
-      entry x = column (curveRows job weights 0 x)
-
-      entries : List ℤ
-      entries = listed entry (job .last + 1)
+      ∙ List·getD-append (entries column) (drop (length (entries column)) row) (pos 0) x
+      (omega (arith, listed-length (entry column) (job .last + 1)))
+      ∙ listed-at (entry column) (job .last + 1) x (pos 0) (omega arith)
 
   pub shows : (x : ℕ) → x ≤ job .last → shown job weights lent x ≡ curveRows job weights 0 x
   shows x l = rw lent-ran (λ i. record {
@@ -66,17 +68,13 @@ module _ (job : Job) (weights : List ℕ) (lent : Lent) (ok : Accepted job weigh
     bound = row-at (λ e. e .bound) (lent .bound) x l i;
   })
 
-  -- a lent row is on return as long as it was
+  -- a lent row that is long enough still is on return
   row-long : (column : Entry → ℤ) (row : List ℤ) → job .last + 1 ≤ length row
       → job .last + 1 ≤ length (written (rowAfter column job weights) row)
-  row-long column row h =
-      rw (row-listed column) (rw (written-length entries row (omega (arith, listed-length entry (job .last + 1)))) h)
-    where
-      entry : ℕ → ℤ
-      entry x = column (curveRows job weights 0 x)
-
-      entries : List ℤ
-      entries = listed entry (job .last + 1)
+  row-long column row h = rw (
+    row-listed column,
+    written-length (entries column) row (omega (arith, listed-length (entry column) (job .last + 1))),
+  ) h
 
   pub lows-long : job .last + 1 ≤ length (curveLent job weights lent .low)
   lows-long = rw lent-ran (row-long (λ e. e .low) (lent .low) (passed .1 .low-long))

@@ -1,19 +1,19 @@
 -- The rows' first X+1 places are what the job shows. These entries are in order, as the exact amounts lie between them, and small, as none
 -- has a fault; so the level query does not refuse them, and encloses the quantile of the exact amounts.
 use mathlib.Core.Path.{_≡_, refl, sym, subst}
-use mathlib.Core.Bool.{Bool, true, false}
+use mathlib.Core.Bool.{false}
 use mathlib.Core.List.{List, [], _∷_}
 use Prim.Native.Nat.{ℕ, _+_, _≤_, _<_}
 use native.Mathlib.Nat as NL
 use native.Mathlib.Omega.{arith}
-use borrow.Author.Tests.{le-ltb, eq-eqb, eqb-false}
+use borrow.Author.Tests.{le-ltb, eq-eqb}
 use lib.IntN.{ℤ, pos}
 use lib.Signed.{_≤ℤ_}
 use lib.ListN.{length}
 use lib.Seq.{getD-take, length-take-le}
 use Rattle.algebra.specs.Fraction.{Fraction, whole, _≼_}
 use Rattle.algebra.proofs.Integer.{signed, ≤ℤ-ltZ}
-use Rattle.algebra.proofs.Smallest.{smallest-is}
+use Rattle.algebra.proofs.Smallest.{smallest-none}
 use Rattle.algebra.proofs.Value.{≼-refl, ≼-trans, whole-mono, le-of-whole}
 use Rattle.model.specs.declared.Job.{Job}
 use Rattle.model.specs.Answer.{condition, firstOf}
@@ -25,7 +25,7 @@ use Rattle.quantile.specs.Call.{wrongLengths, wrongLevel, wrongAt, firstWrong, 
 use Rattle.quantile.specs.Enclosed.{Enclose}
 use Rattle.quantile.proofs.Enclosed.{quantile-enclosed}
 use Rattle.accuracy.specs.Accuracy.{Accepted, Divisible, shown, amount}
-use Rattle.accuracy.specs.Query.{lows, highs, RowsNotRefused, EnclosesQuantile}
+use Rattle.accuracy.specs.Query.{lows, highs, RowsNotRefused, RowsEnclose, EnclosesQuantile}
 use Rattle.accuracy.proofs.Call.{limits, no-fault, shows, lows-long, highs-long}
 use Rattle.accuracy.proofs.Accuracy.{accepted-divisible, encloses}
 
@@ -79,7 +79,7 @@ module _ (job : Job) (weights : List ℕ) (lent : Lent) (ok : Accepted job weigh
       simp (getD-take, le-ltb _ _ (small .low), le-ltb _ _ (small .high), ≤ℤ-ltZ _ _ (ordered x (omega arith)))
 
   right-entries : firstWrong low high ≡ length low
-  right-entries = smallest-is _ _ _ (NL.le-refl _) (λ x l. right-entry x (rw low-length at l)) (λ l. absurd (NL.lt-irrefl _ l))
+  right-entries = smallest-none _ _ (λ x l. right-entry x (rw low-length at l))
 
   -- ---- so the level's two conditions are left
   level-alone : (level : ℤ) → quantiles low high level .answer
@@ -87,15 +87,11 @@ module _ (job : Job) (weights : List ℕ) (lent : Lent) (ok : Accepted job weigh
   unfolding quantiles firstOf
   level-alone level = rw (right-lengths, le-ltb _ _ (NL.le-of-eq (sym right-entries)))
 
--- which refuse by 32 or by 34
-neither : (p q : Bool) → let number = firstOf (condition p 32 0 ∷ condition q 34 0 ∷ []) .number in ¬ (number ≡ 31) × ¬ (number ≡ 33)
-unfolding firstOf
-neither true q = (eqb-false 32 31 refl, eqb-false 32 33 refl)
-neither false true = (eqb-false 34 31 refl, eqb-false 34 33 refl)
-neither false false = (eqb-false 0 31 refl, eqb-false 0 33 refl)
-
 pub rows-not-refused : RowsNotRefused
-rows-not-refused job weights lent ok level = rw (level-alone job weights lent ok level) (neither _ _)
+rows-not-refused = level-alone
+
+pub rows-enclose : RowsEnclose
+rows-enclose = enclosed
 
 pub encloses-quantile : EnclosesQuantile
 encloses-quantile job weights lent ok h p s t level asked =

@@ -1,12 +1,12 @@
 -- ℤ of the kit as an ordered commutative ring, and the way from ℤ to `omega`: z is the difference of its part above zero and its part
 -- below zero, both natural numbers, so a linear statement over ℤ is one over ℕ.
 use mathlib.Core.Path.{_≡_, refl, sym, ap, ap₂}
-use mathlib.Core.Bool.{Bool, true, false, not, cond, true≢false}
+use mathlib.Core.Bool.{Bool, true, false, not, cond}
 use Prim.Native.Nat.{ℕ, zero, suc, _+_, _*_, _-_, _≤_, _<_}
 use native.Mathlib.Nat as NL
 use native.Mathlib.Decide.{decLe}
 use native.Mathlib.Omega.{arith}
-use borrow.Author.Tests.{le-ltb, ltb-false}
+use borrow.Author.Tests.{le-ltb}
 use lib.Dec.{T, T-prop, ltb, ltb→lt, lt→ltb, leb→le, le→leb, nltb→le}
 use lib.IntN.{ℤ, pos, negsuc, negℤ, natAbs, subℕ, _+ℤ_, _*ℤ_, +ℤ-comm, +ℤ-assoc, +ℤ-idr, +ℤ-invr, *ℤ-comm, *ℤ-zero}
 use lib.Signed.{_≤ℤ_, _<ℤ_, leZ, ltZ, ≤ℤ-refl}
@@ -174,18 +174,12 @@ by-leZ a b false e = no (λ h. rw e at (h .le))
 pub ≤ℤ-dec : (a b : ℤ) → Dec (a ≤ℤ b)
 ≤ℤ-dec a b = by-leZ a b (leZ a b) refl
 
--- the order and the code's test, where that says no
+-- the code's test, where that says no; `ltZ-no` of the kit is the converse
 pub ≤ℤ-ltZ : (a b : ℤ) → a ≤ℤ b → ltZ b a ≡ false
 ≤ℤ-ltZ (pos a) (pos b) h = le-ltb b a (leb→le a b (h .le))
 ≤ℤ-ltZ (pos a) (negsuc b) h = absurd (h .le)
 ≤ℤ-ltZ (negsuc a) (pos b) h = refl
 ≤ℤ-ltZ (negsuc a) (negsuc b) h = le-ltb a b (leb→le b a (h .le))
-
-pub ≤ℤ-of-ltZ : (a b : ℤ) → ltZ b a ≡ false → a ≤ℤ b
-≤ℤ-of-ltZ (pos a) (pos b) e = record { le = le→leb a b (ltb-false b a e) }
-≤ℤ-of-ltZ (pos a) (negsuc b) e = absurd (true≢false e)
-≤ℤ-of-ltZ (negsuc a) (pos b) e = record { le = tt }
-≤ℤ-of-ltZ (negsuc a) (negsuc b) e = record { le = le→leb b a (ltb-false a b e) }
 
 pub ≤ℤ-total : {a b : ℤ} → ¬ (a ≤ℤ b) → b ≤ℤ a
 ≤ℤ-total {a} {b} f = by (decLe (up a + down b) (up b + down a))

@@ -4,7 +4,7 @@ use mathlib.Core.Bool.{Bool, true, false, cond}
 use Prim.Native.Nat.{ℕ, zero, suc, _≤_, _<_}
 use native.Mathlib.Nat as NL
 use native.Mathlib.Omega.{arith}
-use Rattle.algebra.specs.Smallest.{smallest, FailBelow, SmallestIs, SmallestFinds, LeastExists}
+use Rattle.algebra.specs.Smallest.{smallest, FailBelow, SmallestIs, SmallestNone, SmallestFinds, LeastExists}
 
 pub smallest-is : SmallestIs
 unfolding smallest
@@ -14,6 +14,9 @@ smallest-is test (suc n) (suc i) le below here = rw (
   below 0 (omega arith),
   smallest-is (λ k. test (suc k)) n i (omega arith) (λ k h. below (suc k) (omega arith)) (λ h. here (omega arith)),
 )
+
+pub smallest-none : SmallestNone
+smallest-none test n fails = smallest-is test n n (NL.le-refl n) fails (λ h. absurd (NL.lt-irrefl n h))
 
 pub smallest-finds : SmallestFinds
 unfolding smallest

@@ -151,7 +151,7 @@ pub zeroTo-mono : (n : ℕ) (f g : ℕ → Fraction) → ((i : ℕ) → i ≤ n 
 zeroTo-mono n f g h = le-of-value (rewritten order (sum-mono order (suc n) (λ i l. value-le (h i (omega arith))))
     (sym (value-zeroTo n f)) (sym (value-zeroTo n g)))
 
--- whole numbers: their order, also to a sum
+-- the order of whole numbers, and of a whole number and a sum of them
 pub whole-mono : {a c : ℤ} → a ≤ℤ c → whole a ≼ whole c
 unfolding whole over
 whole-mono h = record { across = *ℤ-mono 1 h }
@@ -165,8 +165,8 @@ whole-sum n f = sum-related (λ (z : ℤ) (v : A). value (whole z) ≡ v) (pos 0
     (λ a c u v p q. value-add a c ∙ ap₂ _⊹_ p q) (suc n) f (λ i. value (whole (f i))) (λ i l. refl)
     ∙ sym (value-zeroTo n (λ i. whole (f i)))
 
-pub whole-sum-mono : (a : ℤ) (n : ℕ) (f : ℕ → ℤ) → a ≤ℤ sumℤ (suc n) f → whole a ≼ zeroTo n (λ i. whole (f i))
-whole-sum-mono a n f h = le-of-value (rewritten order (value-le (whole-mono h)) refl (whole-sum n f))
+pub whole-le-sum : (a : ℤ) (n : ℕ) (f : ℕ → ℤ) → a ≤ℤ sumℤ (suc n) f → whole a ≼ zeroTo n (λ i. whole (f i))
+whole-le-sum a n f h = le-of-value (rewritten order (value-le (whole-mono h)) refl (whole-sum n f))
 
 pub le-of-whole-sum : (a : ℤ) (n : ℕ) (f : ℕ → ℤ) → whole a ≼ zeroTo n (λ i. whole (f i)) → a ≤ℤ sumℤ (suc n) f
 le-of-whole-sum a n f h = le-of-whole (le-of-value (rewritten order (value-le h) refl (sym (whole-sum n f))))

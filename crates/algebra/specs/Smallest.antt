@@ -16,6 +16,10 @@ FailBelow test i = (k : ℕ) → k < i → test k ≡ false
 abbrev pub SmallestIs : Type 0
 SmallestIs = (test : ℕ → Bool) (n i : ℕ) → i ≤ n → FailBelow test i → (i < n → test i ≡ true) → smallest test n ≡ i
 
+-- and n where each fails
+abbrev pub SmallestNone : Type 0
+SmallestNone = (test : ℕ → Bool) (n : ℕ) → FailBelow test n → smallest test n ≡ n
+
 -- and conversely: what it finds is at most n, each number below it fails, and it passes unless it is n
 abbrev pub SmallestFinds : Type 0
 SmallestFinds = (test : ℕ → Bool) (n : ℕ)

@@ -99,8 +99,8 @@ abbrev totals : (sure possible : ℕ) → Quantiles
 totals sure possible = record { answer = accepted; sure = sure; possible = possible }
 
 -- a refusal's totals are 0
-abbrev none : (number place : ℕ) → Quantiles
-none number place = record { answer = refused number place; sure = 0; possible = 0 }
+abbrev noTotals : (number place : ℕ) → Quantiles
+noTotals number place = record { answer = refused number place; sure = 0; possible = 0 }
 
 -- ---- the table of cases
 abbrev call : (job : Job) (weights : List ℕ) (answer : Answer) (after : ℕ → Lent) → Case
@@ -181,20 +181,23 @@ cases =
     -- P9: "rows of P1, L 500000000: sure 1, possible 1"
     ∷ level lowP1 highP1 (pos 500000000) (totals 1 1)
     -- P10: "L 900000000: 34"
-    ∷ level lowP1 highP1 (pos 900000000) (none 34 0)
+    ∷ level lowP1 highP1 (pos 900000000) (noTotals 34 0)
     -- at total 1 the lows have 551819161 together, the highs 551819163
     ∷ level lowP1 highP1 (pos 551819163) (totals 2 1)
     -- "rows empty, unequal in length or longer than 501"; 31 comes before 32
-    ∷ level [] [] (pos 0) (none 31 0)
-    ∷ level lowP1 [] (pos 500000000) (none 31 0)
-    ∷ level (replicate 502 (pos 1)) (replicate 502 (pos 1)) (pos 1) (none 31 0)
-    -- "L not 1 to U"; 32 comes before 33
-    ∷ level highP1 lowP1 (pos 0) (none 32 0)
-    ∷ level lowP1 highP1 (pos 1000000001) (none 32 0)
+    ∷ level [] [] (pos 0) (noTotals 31 0)
+    ∷ level lowP1 [] (pos 500000000) (noTotals 31 0)
+    ∷ level (replicate 502 (pos 1)) (replicate 502 (pos 1)) (pos 1) (noTotals 31 0)
+    -- "L not 1 to U"; 501 places are not too many, and 32 comes before 33
+    ∷ level (replicate 501 (pos 1)) (replicate 501 (pos 1)) (pos 0) (noTotals 32 0)
+    ∷ level highP1 lowP1 (pos 0) (noTotals 32 0)
+    ∷ level lowP1 highP1 (pos 1000000001) (noTotals 32 0)
     -- "at the smallest place x, an entry outside -2U to 2U or low above high"; 33 comes before 34, and 2U itself is no fault
-    ∷ level (pos 0 ∷ negℤ (pos 2000000001) ∷ pos 1 ∷ []) (pos 0 ∷ pos 0 ∷ pos 0 ∷ []) (pos 1) (none 33 1)
-    ∷ level (pos 0 ∷ pos 1 ∷ pos 1 ∷ []) (pos 0 ∷ pos 0 ∷ pos 2000000001 ∷ []) (pos 1) (none 33 1)
-    ∷ level (negℤ (pos 2000000000) ∷ pos 2000000000 ∷ []) (pos 2000000000 ∷ pos 2000000000 ∷ []) (pos 1000000000) (none 34 0)
+    ∷ level (pos 0 ∷ negℤ (pos 2000000001) ∷ pos 1 ∷ []) (pos 0 ∷ pos 0 ∷ pos 0 ∷ []) (pos 1) (noTotals 33 1)
+    ∷ level (pos 0 ∷ pos 1 ∷ pos 1 ∷ []) (pos 0 ∷ pos 0 ∷ pos 2000000001 ∷ []) (pos 1) (noTotals 33 1)
+    ∷ level (negℤ (pos 2000000000) ∷ pos 2000000000 ∷ []) (pos 2000000000 ∷ pos 2000000000 ∷ []) (pos 1000000000) (noTotals 34 0)
+    -- a sum that reaches the level and falls again
+    ∷ level (pos 2 ∷ negℤ (pos 5) ∷ []) (pos 2 ∷ negℤ (pos 5) ∷ []) (pos 2) (totals 0 0)
     ∷ []
 
 -- the one claim

@@ -13,7 +13,7 @@ ghost use Rattle.enclosure.specs.Entry.{plus, scaled, rounded, beyond, o
 ghost use Rattle.enclosure.specs.Term.{AddRoom};
 
 // U, which stands for chance 1.
-const UNIT: i64 = 1_000_000_000;
+pub const UNIT: i64 = 1_000_000_000;
 
 // The sums with a factor times an entry added: a factor below 0 takes the entry's other end.
 pub fn add_scaled(sums: Entry, factor: i64, low: i64, high: i64, bound: i64) -> Entry

@@ -13,12 +13,12 @@ use lib.Signed.{leZ}
 use lib.ListN.{length, getD}
 use Rattle.algebra.specs.Fraction.{Fraction, whole, _≼_, zeroTo}
 use Rattle.algebra.proofs.Smallest.{smallest-finds, least-exists}
-use Rattle.algebra.proofs.Value.{≼-refl, ≼-trans, ≼-dec, zeroTo-mono, whole-mono, whole-sum-mono, le-of-whole-sum}
+use Rattle.algebra.proofs.Value.{≼-refl, ≼-trans, ≼-dec, zeroTo-mono, whole-mono, whole-le-sum, le-of-whole-sum}
 use Rattle.model.specs.Answer.{Answer, accepted}
 use Rattle.model.proofs.Answer.{passed as condition-passed}
 use Rattle.quantile.specs.Call.{runningSum, quantileOf, answered, quantiles}
-use Rattle.quantile.specs.Enclosed.{Quantile, entries, Enclose, Accepted}
-use Rattle.quantile.specs.Enclosed.{OneQuantile, RowQuantiles, QuantilesInOrder, QuantileEnclosed}
+use Rattle.quantile.specs.Enclosed.{Quantile, QuantileFrom, entries, Enclose, Accepted}
+use Rattle.quantile.specs.Enclosed.{OneQuantile, RowQuantiles, QuantilesInOrder, QuantileEnclosed, SureReached}
 use Rattle.quantile.proofs.Passed.{Passed, passed}
 
 -- ---- amounts
@@ -43,7 +43,7 @@ one-quantile amount level x y p q = NL.le-antisymm (at-most q p) (at-most p q)
 -- ---- a row
 module _ (row : List ℤ) (level : ℤ) where
   row-reaches : (x : ℕ) → leZ level (runningSum row x) ≡ true → whole level ≼ zeroTo x (entries row)
-  row-reaches x e = whole-sum-mono level x (λ z. getD row z (pos 0)) (record { le = rw e tt })
+  row-reaches x e = whole-le-sum level x (λ z. getD row z (pos 0)) (record { le = rw e tt })
 
   row-fails : (x : ℕ) → leZ level (runningSum row x) ≡ false → ¬ (whole level ≼ zeroTo x (entries row))
   row-fails x e h = rw e at (le-of-whole-sum level x (λ z. getD row z (pos 0)) h .le)
@@ -95,12 +95,15 @@ module _ (low high : List ℤ) (level : ℤ) (ok : Accepted low high level) wher
   possible-below : possible < length high
   possible-below = omega (arith, in-order, sure-below, no-condition .0 .same)
 
-  enclosed : (amount : ℕ → Fraction) → Enclose low high amount → (x : ℕ) × Quantile amount level x × (possible ≤ x) × (x ≤ sure)
+  sure-reaches : (amount : ℕ → Fraction) → Enclose low high amount → whole level ≼ zeroTo sure amount
+  sure-reaches amount inside =
+      ≼-trans reached (zeroTo-mono sure (entries low) amount (λ z l. inside z (omega (arith, sure-below)) .0))
+
+  enclosed : (amount : ℕ → Fraction) → Enclose low high amount → QuantileFrom possible sure amount level
   enclosed amount inside = by (least-exists (λ y. whole level ≼ zeroTo y amount) (λ y. ≼-dec (whole level) (zeroTo y amount)) sure
-      (≼-trans reached (zeroTo-mono sure (entries low) amount (λ z l. inside z (omega (arith, sure-below)) .0))))
+      (sure-reaches amount inside))
     where
-      by : (x : ℕ) × (x ≤ sure) × (whole level ≼ zeroTo x amount) × Unreached amount level x
-          → (x : ℕ) × Quantile amount level x × (possible ≤ x) × (x ≤ sure)
+      by : (x : ℕ) × (x ≤ sure) × (whole level ≼ zeroTo x amount) × Unreached amount level x → QuantileFrom possible sure amount level
       by (x, le, there, before) = (
         x,
         record { reached = there; first = before },
@@ -119,3 +122,6 @@ quantiles-in-order low high level ok = rw (totals low high level ok) (in-order l
 
 pub quantile-enclosed : QuantileEnclosed
 quantile-enclosed low high level amount ok inside = rw (totals low high level ok) (enclosed low high level ok amount inside)
+
+pub sure-reached : SureReached
+sure-reached low high level amount ok inside = rw (totals low high level ok) (sure-reaches low high level ok amount inside)

@@ -7,9 +7,8 @@ use native.Mathlib.Nat as NL
 use borrow.Author.Tests.{ltb-false, eqb-true, not-false}
 use lib.Dec.{eqb}
 use lib.IntN.{ℤ, pos, natAbs}
-use lib.Signed.{ltZ, _≤ℤ_}
+use lib.Signed.{ltZ, _≤ℤ_, ltZ-no}
 use lib.ListN.{length, getD}
-use Rattle.algebra.proofs.Integer.{≤ℤ-of-ltZ}
 use Rattle.algebra.proofs.Or.{or-left, or-right}
 use Rattle.algebra.proofs.Smallest.{smallest-finds}
 use Rattle.model.specs.Answer.{outside}
@@ -26,12 +25,12 @@ short-enough : (low high : ℕ) → wrongLengths low high ≡ false → low ≤ 
 short-enough low high e = within 1 501 low (or-left (outside 1 501 low) (not (eqb low high)) e) .1
 
 -- 33
-right : (low high : ℤ) → wrongEntry low high ≡ false → (natAbs low ≤ 2 * unit) × (natAbs high ≤ 2 * unit) × (low ≤ℤ high)
-right low high e =
+right-entry : (low high : ℤ) → wrongEntry low high ≡ false → (natAbs low ≤ 2 * unit) × (natAbs high ≤ 2 * unit) × (low ≤ℤ high)
+right-entry low high e =
     let ends = or-left (beyond (2 * unit) low || beyond (2 * unit) high) (ltZ high low) e in (
       ltb-false (2 * unit) (natAbs low) (or-left (beyond (2 * unit) low) (beyond (2 * unit) high) ends),
       ltb-false (2 * unit) (natAbs high) (or-right (beyond (2 * unit) low) (beyond (2 * unit) high) ends),
-      ≤ℤ-of-ltZ low high (or-right (beyond (2 * unit) low || beyond (2 * unit) high) (ltZ high low) e),
+      ltZ-no (rw (or-right (beyond (2 * unit) low || beyond (2 * unit) high) (ltZ high low) e) tt),
     )
 
 -- rows that pass both
@@ -55,4 +54,4 @@ passed low high lengths none = record {
 
     entries : (x : ℕ) → x < length low → (natAbs (getD low x (pos 0)) ≤ 2 * unit) × (natAbs (getD high x (pos 0)) ≤ 2 * unit)
         × (getD low x (pos 0) ≤ℤ getD high x (pos 0))
-    entries x l = right _ _ (smallest-finds (wrongAt low high) (length low) .1 x (NL.lt-of-lt-of-le l none))
+    entries x l = right-entry _ _ (smallest-finds (wrongAt low high) (length low) .1 x (NL.lt-of-lt-of-le l none))

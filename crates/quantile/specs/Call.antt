@@ -22,7 +22,7 @@ numberOf Level = 32
 numberOf Entry = 33
 numberOf Unreached = 34
 
--- "Otherwise two totals"
+-- "Otherwise two totals", the paper's "sure" and "possible"
 pub record Quantiles : Type 0 where
   pub answer : Answer
   pub sure : ℕ
@@ -63,7 +63,7 @@ wrongAt low high x = wrongEntry (getD low x (pos 0)) (getD high x (pos 0))
 abbrev pub firstWrong : List ℤ → List ℤ → ℕ
 firstWrong low high = smallest (wrongAt low high) (length low)
 
--- 34: "no total has a sum of lows, from 0 to it, of L or more"
+-- 34: "no total has a sum of lows, from 0 to it, of L or more", so that the search comes to the row's end
 abbrev pub unreached : List ℤ → ℤ → Bool
 unreached low level = eqb (quantileOf low level) (length low)
 
@@ -76,7 +76,7 @@ checks low high level =
     ∷ []
 
 -- ---- the call
--- the totals count where the answer is an acceptance
+-- the totals of an acceptance; after a refusal they are 0
 abbrev pub answered : Answer → ℕ → ℕ → Quantiles
 answered answer sure possible =
     record { answer = answer; sure = cond (isAccepted answer) sure 0; possible = cond (isAccepted answer) possible 0 }

@@ -13,6 +13,10 @@ pub record Quantile (amount : ℕ → Fraction) (level : ℤ) (x : ℕ) : Type 0
   pub reached : whole level ≼ zeroTo x amount
   pub first : (y : ℕ) → y < x → ¬ (whole level ≼ zeroTo y amount)
 
+-- the amounts have a quantile, and it lies from least to most
+abbrev pub QuantileFrom : (least most : ℕ) → (ℕ → Fraction) → ℤ → Type 0
+QuantileFrom least most amount level = (x : ℕ) × Quantile amount level x × (least ≤ x) × (x ≤ most)
+
 -- a row's entries, as amounts
 abbrev pub entries : List ℤ → ℕ → Fraction
 entries row x = whole (getD row x (pos 0))
@@ -42,4 +46,9 @@ QuantilesInOrder = (low high : List ℤ) (level : ℤ) → Accepted low high lev
 -- amounts that the rows enclose, one for each total, have a quantile, and it lies from possible to sure
 abbrev pub QuantileEnclosed : Type 0
 QuantileEnclosed = (low high : List ℤ) (level : ℤ) (amount : ℕ → Fraction) → Accepted low high level → Enclose low high amount
-    → (x : ℕ) × Quantile amount level x × (quantiles low high level .possible ≤ x) × (x ≤ quantiles low high level .sure)
+    → QuantileFrom (quantiles low high level .possible) (quantiles low high level .sure) amount level
+
+-- and at sure their sum reaches the level, though it may have fallen after the quantile
+abbrev pub SureReached : Type 0
+SureReached = (low high : List ℤ) (level : ℤ) (amount : ℕ → Fraction) → Accepted low high level → Enclose low high amount
+    → whole level ≼ zeroTo (quantiles low high level .sure) amount

@@ -1,13 +1,11 @@
 // Refusals 31 to 33: the rows' lengths, the level, the entries.
 
+use enclosure::rule::UNIT;
 use enclosure::rule::is_either_beyond;
 use model::is_outside;
 ghost use mathlib.Core.Path.{_≡_};
 ghost use lib.ListN.{length};
 ghost use Rattle.quantile.specs.Call.{wrongLengths, wrongLevel, wrongEntry, firstWrong};
-
-// U, which stands for chance 1.
-const UNIT: i64 = 1_000_000_000;
 
 // Whether rows of these lengths are empty, too long or unequal.
 pub fn are_wrong_rows(low: usize, high: usize) -> bool

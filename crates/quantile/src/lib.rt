@@ -1,22 +1,27 @@
-// The level query: which total a chosen chance covers, surely and possibly, by the lows and the highs of a curve.
+// The level query: the total up to which the chances of a curve reach a level, surely (by the lows) and possibly (by the highs).
 
-mod check; // check.rt: refusals 31 to 33
-mod search; // search.rt: the first total at which a running sum reaches the level
+mod check;
+mod search;
 
 ghost use mathlib.Core.Path.{_≡_};
 ghost use Rattle.quantile.specs.Call.{paper, quantiles};
 
 // Why the query refuses.
 pub enum Reason {
+    // 31: rows empty, unequal in length or longer than 501.
     Rows,
+    // 32: the level is not 1 to U.
     Level,
+    // 33: an entry outside -2U to 2U, or a low above its high.
     Entry,
+    // 34: no sum of lows reaches the level.
     Unreached,
 }
 
 pub enum QuantileAnswer {
+    // The paper's "sure", by the lows, and its "possible", by the highs.
     Totals { sure: usize, possible: usize },
-    // The reason and its place.
+    // The reason and its place: that of the first wrong entry, and 0 for the other reasons.
     Refused(Reason, usize),
 }
 

@@ -4,7 +4,6 @@ use borrow.Author.Count.{below-none, below-more}
 use mathlib.Core.Path.{_≡_, sym, _∙_}
 use mathlib.Core.Bool.{_||_}
 use Prim.Native.Nat.{_≤_, _-_}
-use native.Mathlib.Nat.{lt-irrefl}
 use native.Mathlib.Omega.{arith}
 use lib.IntN.{pos}
 use lib.ListN.{getD}
@@ -12,7 +11,7 @@ use mir.Syntax.{w64}
 use mir.Val.{SFits}
 use mir.Facts.{toZ-ofZ}
 use Rattle.algebra.specs.Smallest.{FailBelow}
-use Rattle.algebra.proofs.Smallest.{smallest-is}
+use Rattle.algebra.proofs.Smallest.{smallest-is, smallest-none}
 use Rattle.enclosure.specs.Entry.{beyond}
 use Rattle.compound.specs.Call.{termLimit, wrongTerm}
 use Rattle.compound.proofs.check.first_wrong_term.Statement.{statement}
@@ -49,7 +48,7 @@ loop-again c = (
 )
 
 returns-2 : tie.Need-returns-2 Inv-loop μ-loop
-returns-2 c = sym (smallest-is _ _ _ (search needs) (λ k h. c .before .loop .inv .1 k (omega arith)) (λ h. absurd (lt-irrefl _ h)))
+returns-2 c = sym (smallest-none _ _ (λ k h. c .before .loop .inv .1 k (omega arith)))
 
 pub first-wrong-term-spec : {M : Type 1} → statement M
 first-wrong-term-spec =

@@ -3,19 +3,18 @@ use borrow.Author.Needs.{needs}
 use borrow.Author.Count.{below-none, below-more}
 use mathlib.Core.Path.{_≡_, refl, sym, _∙_}
 use Prim.Native.Nat.{_≤_, _-_}
-use native.Mathlib.Nat.{lt-irrefl}
 use native.Mathlib.Omega.{arith}
 use lib.ListN.{length}
 use mir.Syntax.{w64}
 use Rattle.algebra.specs.Smallest.{FailBelow}
-use Rattle.algebra.proofs.Smallest.{smallest-is}
+use Rattle.algebra.proofs.Smallest.{smallest-is, smallest-none}
 use Rattle.algebra.proofs.Size.{held}
 use Rattle.quantile.specs.Call.{wrongAt}
 use Rattle.quantile.proofs.check.first_wrong_entry.Statement.{statement}
 use Rattle.quantile.proofs.check.first_wrong_entry.Tie as tie
 
 abbrev Inv-loop : tie.InvT-loop
-Inv-loop low high x₀ x-end x = (x ≤ length low) × FailBelow (wrongAt low high) x
+Inv-loop low high x₀ x-end x = FailBelow (wrongAt low high) x × (x ≤ length low)
 
 abbrev μ-loop : tie.MeasureT-loop
 μ-loop low high x₀ x-end x = length low - x
@@ -28,20 +27,20 @@ tested c =
     at (c .is-wrong-entry .ensures)
 
 loop-holds : tie.Need-loop-holds Inv-loop μ-loop
-loop-holds c = (search needs, below-none _)
+loop-holds c = (below-none _, search needs)
 
 returns : tie.Need-returns Inv-loop μ-loop
-returns c = sym (smallest-is _ _ _ (search needs) (c .before .before .before .before .before .loop .inv .1)
+returns c = sym (smallest-is _ _ _ (search needs) (c .before .before .before .before .before .loop .inv .0)
     (λ _. sym (tested (c .before)) ∙ c .if1 .taken))
 
 loop-again : tie.Need-loop-again Inv-loop μ-loop
 loop-again c = (
+  below-more _ _ (c .before .before .before .before .before .loop .inv .0) (sym (tested (c .before)) ∙ c .if1 .left),
   search needs,
-  below-more _ _ (c .before .before .before .before .before .loop .inv .1) (sym (tested (c .before)) ∙ c .if1 .left),
 )
 
 returns-2 : tie.Need-returns-2 Inv-loop μ-loop
-returns-2 c = sym (smallest-is _ _ _ (search needs) (λ k h. c .before .loop .inv .1 k (omega arith)) (λ h. absurd (lt-irrefl _ h)))
+returns-2 c = sym (smallest-none _ _ (λ k h. c .before .loop .inv .0 k (omega arith)))
 
 pub first-wrong-entry-spec : {M : Type 1} → statement M
 first-wrong-entry-spec =

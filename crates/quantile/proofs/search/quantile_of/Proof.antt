@@ -4,7 +4,6 @@ use borrow.Author.Count.{below-none, below-more}
 use mathlib.Core.Path.{_≡_, refl, sym}
 use mathlib.Core.List.{List}
 use Prim.Native.Nat.{ℕ, suc, _≤_, _-_}
-use native.Mathlib.Nat.{lt-irrefl}
 use native.Mathlib.Omega.{arith}
 use native.Mathlib.Numerals.{add-one}
 use lib.IntN.{ℤ, pos, _+ℤ_}
@@ -16,7 +15,7 @@ use mir.Facts.{toZ-ofZ}
 use Rattle.algebra.specs.Smallest.{FailBelow}
 use Rattle.algebra.specs.Sum.{accumulate}
 use Rattle.algebra.proofs.Size.{held}
-use Rattle.algebra.proofs.Smallest.{smallest-is}
+use Rattle.algebra.proofs.Smallest.{smallest-is, smallest-none}
 use Rattle.quantile.specs.Call.{runningSum, quantileOf}
 use Rattle.quantile.proofs.Sums.{sumBefore, sum-fits}
 use Rattle.quantile.proofs.search.quantile_of.Statement.{statement}
@@ -56,13 +55,6 @@ sum-holds c = fits (c .before .before .before) (suc (c .before .before .loop .x)
 add-sum : tie.Need-add-sum Inv-loop μ-loop
 add-sum c = rw (summed c) (sum-holds c)
 
-returns : tie.Need-returns Inv-loop μ-loop
-unfolding quantileOf
-returns c =
-    rw (← toZ-ofZ (c .before .before .before .before .fits .level))
-    (sym (smallest-is _ _ _ (search needs) (c .before .before .before .loop .inv .2)
-    (λ _. rw (summed (c .before), toZ-ofZ (sum-holds (c .before))) at (c .if1 .taken))))
-
 loop-again : tie.Need-loop-again Inv-loop μ-loop
 loop-again c = (
   search needs,
@@ -70,11 +62,18 @@ loop-again c = (
   below-more _ _ (c .before .before .before .loop .inv .2) (rw (summed (c .before), toZ-ofZ (sum-holds (c .before))) at (c .if1 .left)),
 )
 
+returns : tie.Need-returns Inv-loop μ-loop
+unfolding quantileOf
+returns c =
+    rw (← toZ-ofZ (c .before .before .before .before .fits .level))
+    (sym (smallest-is _ _ _ (search needs) (c .before .before .before .loop .inv .2)
+    (λ _. rw (summed (c .before), toZ-ofZ (sum-holds (c .before))) at (c .if1 .taken))))
+
 returns-2 : tie.Need-returns-2 Inv-loop μ-loop
 unfolding quantileOf
 returns-2 c =
     rw (← toZ-ofZ (c .before .before .fits .level))
-    (sym (smallest-is _ _ _ (search needs) (λ k h. c .before .loop .inv .2 k (omega arith)) (λ h. absurd (lt-irrefl _ h))))
+    (sym (smallest-none _ _ (λ k h. c .before .loop .inv .2 k (omega arith))))
 
 pub quantile-of-spec : {M : Type 1} → statement M
 quantile-of-spec =
