@@ -1,4 +1,4 @@
-"""The level query, read from the paper alone, in Python's whole numbers."""
+"""The level query as the paper lists it, in Python's whole numbers."""
 from itertools import accumulate
 from typing import NamedTuple
 

@@ -1,4 +1,4 @@
-"""The outward rule and the curve call, read from the paper alone, in Python's whole numbers."""
+"""The outward rule and the curve call as the paper says them, in Python's whole numbers."""
 from dataclasses import dataclass
 
 UNIT = 1_000_000_000

@@ -1,4 +1,4 @@
-"""The sheet reader, read from the paper alone: a sheet is cut at its line ends and its spaces, and each word is held to a pattern."""
+"""The sheet reader as the paper says it: a sheet is cut at its line ends and its spaces, and each word is held to a pattern."""
 import re
 from dataclasses import dataclass
 
