@@ -9,7 +9,7 @@ use model::Job;
 ghost use mathlib.Core.Path.{_≡_};
 ghost use mathlib.Core.Bool.{not};
 ghost use Rattle.model.specs.Answer.{isAccepted};
-ghost use Rattle.compound.specs.Call.{lentRows, paper, curveAnswer, curveLent};
+ghost use Rattle.compound.specs.Call.{numberOf, lentRows, paper, curveAnswer, curveLent};
 
 // Why the curve call refuses.
 pub enum Reason {
@@ -29,6 +29,24 @@ pub enum CurveAnswer {
     Accepted,
     // The reason and its place.
     Refused(Reason, usize),
+}
+
+// The paper's number of a reason.
+pub fn reason_number(reason: Reason) -> u64
+    ensures { λ r. ⌜ r ≡ numberOf reason ⌝ }
+{
+    match reason {
+        Reason::Order => 1,
+        Reason::Divisor => 2,
+        Reason::Term => 3,
+        Reason::Start => 4,
+        Reason::Severities => 5,
+        Reason::Weights => 6,
+        Reason::Last => 7,
+        Reason::Room => 8,
+        Reason::Range => 9,
+        Reason::Bound => 10,
+    }
 }
 
 fn is_refused(answer: CurveAnswer) -> bool

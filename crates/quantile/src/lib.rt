@@ -4,7 +4,7 @@ mod check;
 mod search;
 
 ghost use mathlib.Core.Path.{_≡_};
-ghost use Rattle.quantile.specs.Call.{paper, quantiles};
+ghost use Rattle.quantile.specs.Call.{numberOf, paper, quantiles};
 
 // Why the query refuses.
 pub enum Reason {
@@ -23,6 +23,18 @@ pub enum QuantileAnswer {
     Totals { sure: usize, possible: usize },
     // The reason and its place: that of the first wrong entry, and 0 for the other reasons.
     Refused(Reason, usize),
+}
+
+// The paper's number of a reason.
+pub fn reason_number(reason: Reason) -> u64
+    ensures { λ r. ⌜ r ≡ numberOf reason ⌝ }
+{
+    match reason {
+        Reason::Rows => 31,
+        Reason::Level => 32,
+        Reason::Entry => 33,
+        Reason::Unreached => 34,
+    }
 }
 
 // The smallest total whose lows, summed from total 0, reach the level, and the smallest whose highs do.

@@ -15,9 +15,9 @@ use Rattle.algebra.proofs.Table.{same-itself}
 use Rattle.text.specs.Bytes.{lineEnd, space}
 use Rattle.text.specs.Lines.{has, spaced}
 use Rattle.text.specs.Numbers.{AtMostTenDigits, signFits, decimal}
+use Rattle.text.specs.Output.{lineText}
 use Rattle.text.proofs.Words.{has-append, first-after, words-of-joined}
 use Rattle.text.proofs.Decimal.{decimal-plain, decimal-length, decimal-is-number}
-use Rattle.sheet.specs.Sheet.{lineText}
 use Rattle.sheet.specs.Line.{numbers, allNumbers, line}
 
 -- ---- numbers that a line can hold: at most 10 digits each, and a sign only where it may be

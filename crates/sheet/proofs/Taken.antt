@@ -3,7 +3,7 @@
 use mathlib.Core.Path.{_≡_, refl, sym, ap, subst, subst₂, _∙_}
 use mathlib.Core.Bool.{Bool, true, false, cond}
 use mathlib.Core.List.{List, [], _∷_, _++_, append-assoc, append-nil}
-use Prim.Native.Nat.{ℕ, zero, suc, _+_, _-_, _≤_, _<_}
+use Prim.Native.Nat.{ℕ, zero, suc, _+_, _-_, _≤_, _<_, zero-le}
 use native.Mathlib.Decide.{ℕ-discrete}
 use native.Mathlib.Numerals.{add-one}
 use native.Mathlib.Omega.{arith}
@@ -21,12 +21,13 @@ use Rattle.model.proofs.Answer.{within}
 use Rattle.text.specs.Bytes.{lineEnd}
 use Rattle.text.specs.Lines.{after, afterLines, lineAt}
 use Rattle.text.specs.Numbers.{AtMostTenDigits}
+use Rattle.text.specs.Output.{lineText}
 use Rattle.text.proofs.Scan.{lines-last}
-use Rattle.sheet.specs.Sheet.{LAW, TERM, START, LAST, SEVERITY, W, lineText, termsText, weightsText, sheetText}
+use Rattle.sheet.specs.Sheet.{LAW, TERM, START, LAST, SEVERITY, W, termsText, weightsText, sheetText}
 use Rattle.sheet.specs.Line.{Line, numbers, faulty, line}
 use Rattle.sheet.specs.Reading.{Reading, reads, refuses, on, signed, whole, noTerms, withTerm, startOf, jobOf, sheetOf}
 use Rattle.sheet.specs.Reading.{weightLines, severityLine, lastLine, startLine, termLines, lawLine, reading}
-use Rattle.sheet.specs.Call.{numberWords, signsOn, faultOn}
+use Rattle.sheet.specs.Call.{told, numberWords, signsOn, faultOn}
 use Rattle.sheet.specs.Accepts.{Terms, Writable, FirstFaulty, TakesOnlyTexts, HandsBackFirstFaulty}
 use Rattle.sheet.proofs.LineParsed.{Parsed, LineFacts, line-facts, pair, one-whole, two-whole}
 
@@ -251,6 +252,14 @@ module _ (places : ℕ) (all : List ℕ) where
 
 pub takes-only-texts : TakesOnlyTexts
 takes-only-texts places s sheet e = subst (Right places s) e (right places s)
+
+-- so what the reader tells has at most 500 weights, and at most as many as there are places; a refusal has none
+pub counted : (places : ℕ) (s : List ℕ) → (told (reading places s) .count ≤ 500) × (told (reading places s) .count ≤ places)
+counted places s = by (reading places s) refl
+  where
+    by : (r : Reading) → reading places s ≡ r → (told r .count ≤ 500) × (told r .count ≤ places)
+    by (reads sheet) e = let taken = takes-only-texts places s sheet e in (taken .0 .count-most, taken .1)
+    by (refuses number line) e = (zero-le, zero-le)
 
 pub hands-back-first-faulty : HandsBackFirstFaulty
 hands-back-first-faulty places s n e = rw e (subst (Right places s) e (right places s) refl)

@@ -14,7 +14,8 @@ use Rattle.model.specs.declared.Job.{Job}
 use Rattle.model.proofs.Answer.{inside}
 use Rattle.text.specs.Lines.{has}
 use Rattle.text.specs.Numbers.{AtMostTenDigits}
-use Rattle.sheet.specs.Sheet.{Sheet, LAW, TERM, START, LAST, SEVERITY, W, lineText, termsText, weightsText, sheetText}
+use Rattle.text.specs.Output.{lineText}
+use Rattle.sheet.specs.Sheet.{Sheet, LAW, TERM, START, LAST, SEVERITY, W, termsText, weightsText, sheetText}
 use Rattle.sheet.specs.Reading.{reads, noTerms, sheetOf, weightLines, severityLine, lastLine, startLine, termLines, lawLine, reading}
 use Rattle.sheet.specs.Accepts.{Terms, Writable, TakesAllTexts, TextsFit}
 use Rattle.sheet.proofs.LinePrinted.{Held, one, two, two-signed, line-printed, line-length}

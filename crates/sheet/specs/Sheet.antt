@@ -1,14 +1,13 @@
 -- The numbers that a sheet holds, and the sheet as text: "Lines in order: `LAW k D`; k lines `TERM A B`; `START s t`; `LAST X`;
 -- `SEVERITY m`; m lines `W w`."
-use mathlib.Core.List.{List, [], _∷_, _++_, map}
+use mathlib.Core.List.{List, [], _∷_, _++_}
 use Prim.Native.Nat.{ℕ, zero, suc}
-use lib.IntN.{ℤ, pos}
+use lib.IntN.{pos}
 use lib.ListN.{length, getD}
 use Rattle.model.specs.declared.Law.{Law}
 use Rattle.model.specs.declared.Job.{Job}
-use Rattle.text.specs.Bytes.{ascii, lineEnd}
-use Rattle.text.specs.Lines.{spaced}
-use Rattle.text.specs.Numbers.{decimal}
+use Rattle.text.specs.Bytes.{ascii}
+use Rattle.text.specs.Output.{lineText}
 
 -- a job and the weights of its table
 pub record Sheet : Type 0 where
@@ -35,10 +34,6 @@ abbrev pub W : List ℕ
 W = ascii "W"
 
 -- ---- the text
--- a keyword and numbers, in decimal, with single spaces, and a line end
-unfoldable pub lineText : List ℕ → List ℤ → List ℕ
-lineText keyword numbers = keyword ++ (spaced (map decimal numbers) ++ (lineEnd ∷ []))
-
 -- the lines of `due` terms, the first of them term i + 1
 unfoldable pub termsText : Law → ℕ → ℕ → List ℕ
 termsText law i zero = []

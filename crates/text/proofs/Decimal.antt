@@ -9,7 +9,7 @@ use native.Mathlib.Nat as NL
 use native.Mathlib.Omega.{arith}
 use borrow.Author.Tests.{ltb-true, ltb-false, leb-true, eqb-true, eqb-false, le-ltb, lt-ltb, le-leb, ne-eqb, not-true}
 use lib.Dec.{leb, eqb, ltb, eqb·suc-zero}
-use lib.IntN.{ℤ, pos, negsuc, negℤ}
+use lib.IntN.{ℤ, pos, negsuc, negℤ, natAbs}
 use lib.ListN.{length, drop, length-append}
 use Rattle.algebra.specs.Table.{every}
 use Rattle.algebra.proofs.Or.{or-no}
@@ -69,10 +69,24 @@ length-within (suc steps) (suc k) n h = by-size (λ w. length w ≤ suc (suc k))
 digits-length : (n : ℕ) → n < 10 ^ 10 → length (digits n) ≤ 10
 digits-length n h = length-within 19 9 n h
 
-pub decimal-length : (z : ℤ) → AtMostTenDigits z → length (decimal z) ≤ 11
+-- and steps + 1 digits are all that is written, whatever the number
+length-most : (steps n : ℕ) → length (digitsWithin steps n) ≤ suc steps
+unfolding digitsWithin
+length-most zero n = omega arith
+length-most (suc steps) n = by-size (λ w. length w ≤ suc (suc steps)) steps n (λ l. omega arith)
+    (λ l. simp length-append (omega (arith, length-most steps (n / 10))))
+
+-- a sign is one byte more
+sign-length : (z : ℤ) → length (decimal z) ≤ suc (length (digits (natAbs z)))
 unfolding decimal
-decimal-length (pos n) h = omega (arith, digits-length n h)
-decimal-length (negsuc n) h = omega (arith, digits-length (suc n) h)
+sign-length (pos n) = omega arith
+sign-length (negsuc n) = omega arith
+
+pub decimal-length : (z : ℤ) → AtMostTenDigits z → length (decimal z) ≤ 11
+decimal-length z h = omega (arith, sign-length z, digits-length (natAbs z) h)
+
+pub decimal-short : (z : ℤ) → length (decimal z) ≤ 21
+decimal-short z = omega (arith, sign-length z, length-most 19 (natAbs z))
 
 -- a number above 0 starts with another digit, whatever follows it
 starts : (steps n : ℕ) (t : List ℕ) → 0 < n → startsWith zeroDigit (digitsWithin steps n ++ t) ≡ false
@@ -128,7 +142,7 @@ four false q r s e = absurd (false≢true e)
 same-digit : (b : ℕ) → isDigit b ≡ true → digit (b - zeroDigit) ≡ b ∷ []
 same-digit b e = ap (λ (x : ℕ). x ∷ []) (omega (arith, digit-range b e))
 
-digits-small : (steps n : ℕ) → n < 10 → digitsWithin steps n ≡ digit n
+pub digits-small : (steps n : ℕ) → n < 10 → digitsWithin steps n ≡ digit n
 unfolding digitsWithin
 digits-small zero n h = refl
 digits-small (suc steps) n h = rw (lt-ltb n 10 h)
@@ -140,6 +154,21 @@ digits-next steps n d h k =
     let tenth : (n * 10 + d) / 10 ≡ n = omega arith in
     let last : (n * 10 + d) % 10 ≡ d = omega arith in
     rw (le-ltb (n * 10 + d) 10 (omega arith), tenth, last)
+
+-- a step more than is needed changes nothing
+steps-enough : (steps n : ℕ) → n < 10 ^ suc steps → digitsWithin (suc steps) n ≡ digitsWithin steps n
+unfolding digitsWithin
+steps-enough zero n h = rw (lt-ltb n 10 h)
+steps-enough (suc steps) n h =
+    ap (λ (w : List ℕ). cond (ltb n 10) (digit n) (w ++ digit (n % 10))) (steps-enough steps (n / 10) (omega arith))
+
+-- so a number of 64 bits has the digits of its tenth, and one more
+pub digits-last : (n : ℕ) → 10 ≤ n → n < 2 ^ 64 → digits n ≡ digits (n / 10) ++ digit (n % 10)
+digits-last n h k =
+    let parts : n ≡ n / 10 * 10 + n % 10 = omega arith in
+    ap digits parts
+    ∙ digits-next 18 (n / 10) (n % 10) (omega arith) (omega arith)
+    ∙ ap (λ (w : List ℕ). w ++ digit (n % 10)) (sym (steps-enough 18 (n / 10) (omega arith)))
 
 -- and with all digits of w more: then it is not 0
 digits-more : (steps n : ℕ) (w : List ℕ) → (0 < length w → 0 < n) → every isDigit w ≡ true

@@ -4,3 +4,4 @@ pub mod Scan
 pub mod Read
 pub mod Words
 pub mod Decimal
+pub mod Put

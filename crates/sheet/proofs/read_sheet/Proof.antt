@@ -3,7 +3,7 @@
 use borrow.Author.Needs.{needs}
 use mathlib.Core.Path.{_≡_, refl, sym, ap, subst, _∙_}
 use mathlib.Core.List.{List}
-use Prim.Native.Nat.{ℕ, _≤_, zero-le}
+use Prim.Native.Nat.{ℕ, _≤_}
 use native.Mathlib.Omega.{arith}
 use lib.ListN.{length, take, drop}
 use lib.Seq.{length-take-le, take-append-seam}
@@ -11,16 +11,9 @@ use Rattle.algebra.specs.Slice.{written}
 use Rattle.sheet.specs.declared.SheetRead.{SheetRead}
 use Rattle.sheet.specs.Reading.{Reading, reads, refuses, reading}
 use Rattle.sheet.specs.Call.{Told, answerOf, paper, told, rowOnReturn}
-use Rattle.sheet.proofs.Taken.{takes-only-texts}
+use Rattle.sheet.proofs.Taken.{counted}
 use Rattle.sheet.proofs.read_sheet.Statement.{statement}
 use Rattle.sheet.proofs.read_sheet.Tie as tie
-
-counted : (places : ℕ) (s : List ℕ) → (told (reading places s) .count ≤ 500) × (told (reading places s) .count ≤ places)
-counted places s = by (reading places s) refl
-  where
-    by : (r : Reading) → reading places s ≡ r → (told r .count ≤ 500) × (told r .count ≤ places)
-    by (reads sheet) e = let taken = takes-only-texts places s sheet e in (taken .0 .count-most, taken .1)
-    by (refuses number line) e = (zero-le, zero-le)
 
 row-written : (r : Reading) (row : List ℕ) → written (told r .weights) row ≡ rowOnReturn r row
 row-written (reads sheet) row = refl

@@ -1,0 +1,2 @@
+-- What is proved of the program's text.
+pub mod Room

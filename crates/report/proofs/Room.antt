@@ -1,0 +1,212 @@
+-- Limits are checked before room is: the reader refuses more than 500 weights before it looks at its row's places, and the curve more than
+-- 501 totals before it looks at its rows'. So at most 501 lines are written, of at most 88 bytes each, since a number has at most 21. An
+-- input that is cut off was too long, and still is.
+use mathlib.Core.Path.{_≡_, refl, sym, _∙_, ap, subst}
+use mathlib.Core.Bool.{Bool, true, false, _&&_, cond, false≢true, or-true}
+use mathlib.Core.List.{List, [], _∷_, _++_, map}
+use mathlib.Core.Option.{Option, none, some}
+use Prim.Native.Nat.{ℕ, zero, suc, _+_, _*_, _≤_, _<_}
+use native.Mathlib.Nat as NL
+use native.Mathlib.Omega.{arith}
+use borrow.Author.Tests.{ltb-true, ltb-false, lt-ltb, le-ltb, eqb-true}
+use lib.Dec.{eqb, ltb}
+use lib.IntN.{ℤ, pos}
+use lib.ListN.{length, take, length-append, length-replicate}
+use lib.Seq.{take-all, length-take-le}
+use Rattle.algebra.specs.Table.{sameList}
+use Rattle.model.specs.declared.Law.{Law}
+use Rattle.model.specs.declared.Start.{Start}
+use Rattle.model.specs.declared.Job.{Job}
+use Rattle.model.specs.Answer.{Answer, Condition, refused, isAccepted, condition, firstOf, outside}
+use Rattle.model.proofs.Answer.{first-none, within}
+use Rattle.text.specs.Bytes.{ascii, lineEnd}
+use Rattle.text.specs.Lines.{before, after, has, words, spaced}
+use Rattle.text.specs.Numbers.{decimal}
+use Rattle.text.specs.Output.{lineText}
+use Rattle.text.proofs.Decimal.{decimal-short}
+use Rattle.sheet.specs.Sheet.{LAW, TERM, START, LAST, SEVERITY, W}
+use Rattle.sheet.specs.Line.{faulty, allNumbers, ofNumbers, ofWords, line}
+use Rattle.sheet.specs.Reading.{Reading, reads, refuses, on, signed, whole, noTerms, withTerm, startOf, jobOf}
+use Rattle.sheet.specs.Reading.{weightLines, severityLine, lastLine, startLine, termLines, lawLine, reading}
+use Rattle.compound.specs.Call.{Lent, lentRows, workPlaces, tooShort, faults, curveAnswer, curveLent}
+use Rattle.report.specs.Report.{at, totalLines, tableText, refusalLine, mostTotals, mostWeights, zeros, programRows}
+use Rattle.report.specs.Report.{rowsText, curveText, readingText, reportText}
+use Rattle.report.specs.Room.{WeightsFit, TotalsFit, room, TextFits, inputBytes, InputFits}
+
+-- ---- the weights
+-- a sheet that is read, or that is refused for itself and not for the row
+abbrev pub BySheet : Reading → Type 0
+BySheet (reads sheet) = Unit {0}
+BySheet (refuses number n) = (21 ≤ number) × (number ≤ 26)
+
+-- a line itself is refused by 22, 23 or 24; else the next lines decide
+goes-on : (signs : Bool) (keyword : List ℕ) (count : ℕ) (s : List ℕ) (n : ℕ) (next : List ℤ → List ℕ → Reading)
+    → ((zs : List ℤ) (rest : List ℕ) → BySheet (next zs rest)) → BySheet (on (line signs keyword count s) n next)
+unfolding line
+goes-on signs keyword count s n next other = by (has lineEnd s) (words (before lineEnd s))
+  where
+    of-numbers : (zs : Option (List ℤ)) → BySheet (on (ofNumbers zs (after lineEnd s)) n next)
+    of-numbers none = (omega arith, omega arith)
+    of-numbers (some zs) = other zs (after lineEnd s)
+
+    of-form : (t : Bool) (ws : List (List ℕ)) → BySheet (on (cond t (ofNumbers (allNumbers signs ws) (after lineEnd s)) (faulty 23)) n next)
+    of-form true ws = of-numbers (allNumbers signs ws)
+    of-form false ws = (omega arith, omega arith)
+
+    by : (t : Bool) (ws : List (List ℕ)) → BySheet (on (cond t (ofWords signs keyword count ws (after lineEnd s)) (faulty 22)) n next)
+    by false ws = (omega arith, omega arith)
+    by true [] = (omega arith, omega arith)
+    by true (w ∷ ws) = of-form (sameList eqb w keyword && eqb (length ws) count) ws
+
+-- a test of the line's numbers, and what follows where it fails
+unless : (t : Bool) (number n : ℕ) (r : Reading) → (21 ≤ number) × (number ≤ 26) → (t ≡ false → BySheet r) → BySheet (cond t (refuses number n) r)
+unless true number n r this others = this
+unless false number n r this others = others refl
+
+weights-by-sheet : (job : Job) (ws : List ℕ) (due n : ℕ) (s : List ℕ) → BySheet (weightLines job ws due n s)
+unfolding weightLines
+weights-by-sheet job ws zero n [] = tt
+weights-by-sheet job ws zero n (b ∷ s) = (omega arith, omega arith)
+weights-by-sheet job ws (suc due) n s = goes-on false W 1 s n _ λ zs rest. weights-by-sheet job (ws ++ (whole zs 0 ∷ [])) due (n + 1) rest
+
+-- 25 refuses more than 500 weights, so that a row of 500 places has room for the others
+module _ (places : ℕ) (enough : 500 ≤ places) where
+  severity-by-sheet : (job : Job) (n : ℕ) (s : List ℕ) → BySheet (severityLine places job n s)
+  unfolding severityLine
+  severity-by-sheet job n s = goes-on false SEVERITY 1 s n _ λ zs rest.
+      unless (outside 1 500 (whole zs 0)) 25 n _ (omega arith, omega arith) λ inside.
+      rw (le-ltb places (whole zs 0) (omega (arith, within 1 500 (whole zs 0) inside .1)))
+      (weights-by-sheet job [] (whole zs 0) (n + 1) rest)
+
+  last-by-sheet : (law : Law) (start : Start) (n : ℕ) (s : List ℕ) → BySheet (lastLine places law start n s)
+  unfolding lastLine
+  last-by-sheet law start n s = goes-on false LAST 1 s n _ λ zs rest. severity-by-sheet (jobOf law start (whole zs 0)) (n + 1) rest
+
+  start-by-sheet : (law : Law) (n : ℕ) (s : List ℕ) → BySheet (startLine places law n s)
+  unfolding startLine
+  start-by-sheet law n s = goes-on false START 2 s n _ λ zs rest. last-by-sheet law (startOf (whole zs 0) (whole zs 1)) (n + 1) rest
+
+  terms-by-sheet : (law : Law) (i due : ℕ) (s : List ℕ) → BySheet (termLines places law i due s)
+  unfolding termLines
+  terms-by-sheet law i zero s = start-by-sheet law (i + 2) s
+  terms-by-sheet law i (suc due) s = goes-on true TERM 2 s (i + 2) _ λ zs rest.
+      terms-by-sheet (withTerm law i (signed zs 0) (signed zs 1)) (i + 1) due rest
+
+  law-by-sheet : (s : List ℕ) → BySheet (lawLine places s)
+  unfolding lawLine
+  law-by-sheet s = goes-on false LAW 2 s 1 _ λ zs rest.
+      unless (outside 1 4 (whole zs 0)) 25 1 _ (omega arith, omega arith) λ _. terms-by-sheet (noTerms (whole zs 0) (whole zs 1)) 0 (whole zs 0) rest
+
+  pub reading-by-sheet : (s : List ℕ) → BySheet (reading places s)
+  unfolding reading
+  reading-by-sheet s = unless (outside 1 16384 (length s)) 21 0 _ (omega arith, omega arith) λ _. law-by-sheet s
+
+pub weights-fit : WeightsFit
+weights-fit s n e =
+    let sheets : (21 ≤ 27) × (27 ≤ 26) = subst BySheet e (reading-by-sheet mostWeights (NL.le-refl mostWeights) s) in
+    omega arith
+
+-- ---- the totals
+-- by cases on the first condition of a list
+first-or-rest : (P : Answer → Type 0) (t : Bool) (number place : ℕ) (rest : List Condition) → (t ≡ true → P (refused number place))
+    → (t ≡ false → P (firstOf rest)) → P (firstOf (condition t number place ∷ rest))
+unfolding firstOf
+first-or-rest P true number place rest this others = this refl
+first-or-rest P false number place rest this others = others refl
+
+-- the answer has a property where the refusals by 1 to 7 have it, and where the conditions after them give it for at most 501 totals
+after-last : (job : Job) (weights : List ℕ) (P : Answer → Type 0) → ((i place : ℕ) → i < 7 → P (refused (suc i) place))
+    → (job .last ≤ 500 → P (firstOf (condition (tooShort (job .last + 1) programRows) 8 0 ∷ faults job weights)))
+    → P (curveAnswer job weights programRows)
+unfolding curveAnswer
+after-last job weights P early later =
+    first-or-rest P _ 1 _ _ (λ _. early 0 _ (omega arith)) λ _.
+    first-or-rest P _ 2 _ _ (λ _. early 1 _ (omega arith)) λ _.
+    first-or-rest P _ 3 _ _ (λ _. early 2 _ (omega arith)) λ _.
+    first-or-rest P _ 4 _ _ (λ _. early 3 _ (omega arith)) λ _.
+    first-or-rest P _ 5 _ _ (λ _. early 4 _ (omega arith)) λ _.
+    first-or-rest P _ 6 _ _ (λ _. early 5 _ (omega arith)) λ _.
+    first-or-rest P _ 7 _ _ (λ _. early 6 _ (omega arith)) λ last. later (ltb-false 500 (job .last) last)
+
+-- rows for `most` totals are long enough for fewer
+long-enough : (places most : ℕ) → places ≤ most
+    → tooShort places (lentRows (zeros most) (zeros most) (zeros most) (zeros (workPlaces most))) ≡ false
+long-enough places most h = simp (length-replicate, le-ltb most places h, le-ltb (workPlaces most) (workPlaces places) (omega arith))
+
+-- an acceptance, or a refusal by another number than 8
+abbrev OtherAnswer : Answer → Type 0
+OtherAnswer answer = ¬ (answer .number ≡ 8)
+
+pub totals-fit : TotalsFit
+totals-fit job weights = after-last job weights OtherAnswer (λ i place h e. omega arith) λ last.
+    first-or-rest OtherAnswer (tooShort (job .last + 1) programRows) 8 _ _
+    (λ t. absurd (false≢true (sym (long-enough (job .last + 1) mostTotals (omega arith)) ∙ t))) λ _.
+    first-or-rest OtherAnswer _ 9 _ _ (λ _ e. omega arith) λ _.
+    first-or-rest OtherAnswer _ 10 _ _ (λ _ e. omega arith) λ _. rw first-none (λ e. omega arith)
+
+-- ---- the text
+-- a space goes before each number
+numbers-short : (zs : List ℤ) → length (spaced (map decimal zs)) ≤ 22 * length zs
+unfolding spaced
+numbers-short [] = omega arith
+numbers-short (z ∷ zs) = simp length-append (omega (arith, decimal-short z, numbers-short zs))
+
+line-short : (word : List ℕ) (zs : List ℤ) → length (lineText word zs) ≤ length word + 22 * length zs + 1
+unfolding lineText
+line-short word zs = simp length-append (omega (arith, numbers-short zs))
+
+lines-short : (totals : ℕ) (low high bound : List ℤ) → length (totalLines totals low high bound) ≤ 88 * totals
+unfolding totalLines
+lines-short zero low high bound = omega arith
+lines-short (suc x) low high bound =
+    let numbers = at low x ∷ at high x ∷ at bound x ∷ [] in
+    simp length-append (omega (arith, lines-short x low high bound, line-short (decimal (pos x)) numbers, decimal-short (pos x)))
+
+table-short : (totals : ℕ) (low high bound : List ℤ) → totals ≤ mostTotals → length (tableText totals low high bound) ≤ room
+table-short totals low high bound h = simp length-append (omega (arith, lines-short totals low high bound))
+
+refusal-short : (answer : Answer) → length (refusalLine answer) ≤ room
+refusal-short answer = omega (arith, line-short (ascii "REFUSED") (pos (answer .number) ∷ pos (answer .place) ∷ []))
+
+-- an accepted job has at most 501 totals
+pub accepted-last : (job : Job) (weights : List ℕ) → isAccepted (curveAnswer job weights programRows) ≡ true → job .last ≤ 500
+accepted-last job weights = after-last job weights (λ a. isAccepted a ≡ true → job .last ≤ 500)
+    (λ i place _ e. absurd (NL.suc-ne-zero i (eqb-true (suc i) 0 e))) (λ last _. last)
+
+curve-short : (job : Job) (weights : List ℕ) → length (curveText job weights) ≤ room
+unfolding curveText
+curve-short job weights = by (isAccepted answer) refl
+  where
+    answer : Answer
+    answer = curveAnswer job weights programRows
+
+    rows : Lent
+    rows = curveLent job weights programRows
+
+    by : (t : Bool) → isAccepted answer ≡ t → length (cond t (rowsText job rows) (refusalLine answer)) ≤ room
+    by true e = table-short (job .last + 1) (rows .low) (rows .high) (rows .bound) (omega (arith, accepted-last job weights e))
+    by false e = refusal-short answer
+
+reading-short : (r : Reading) → length (readingText r) ≤ room
+reading-short (reads sheet) = curve-short (sheet .job) (sheet .weights)
+reading-short (refuses number n) = refusal-short (refused number n)
+
+pub text-fits : TextFits
+unfolding reportText
+text-fits s = reading-short (reading mostWeights s)
+
+-- ---- the input
+too-long : (places : ℕ) (s : List ℕ) → 16384 < length s → reading places s ≡ refuses 21 0
+unfolding reading
+too-long places s h = rw (lt-ltb 16384 (length s) h, or-true)
+
+pub input-fits : InputFits
+unfolding reportText
+input-fits s = ap readingText (by (ltb 16384 (length s)) refl)
+  where
+    by : (t : Bool) → ltb 16384 (length s) ≡ t → reading mostWeights (take inputBytes s) ≡ reading mostWeights s
+    by true e =
+        let long = ltb-true 16384 (length s) e in
+        too-long mostWeights (take inputBytes s) (omega (arith, length-take-le inputBytes s long))
+        ∙ sym (too-long mostWeights s long)
+    by false e = ap (reading mostWeights) (take-all inputBytes s (omega (arith, ltb-false 16384 (length s) e)))

@@ -1,0 +1,3 @@
+-- The program's text.
+pub mod Report
+pub mod Room

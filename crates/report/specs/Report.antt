@@ -1,0 +1,63 @@
+-- The program: "It writes the line below in capitals, then one line for each total: total, low, high, bound. On refusal it writes one line
+-- only: `REFUSED`, the number and the place or line. Single spaces stand between words, and every line has a line end."
+use mathlib.Core.Bool.{cond}
+use mathlib.Core.List.{List, [], _∷_, _++_}
+use Prim.Native.Nat.{ℕ, zero, suc, _+_}
+use lib.IntN.{ℤ, pos}
+use lib.ListN.{getD, replicate}
+use Rattle.model.specs.declared.Job.{Job}
+use Rattle.model.specs.Answer.{Answer, refused, isAccepted}
+use Rattle.text.specs.Bytes.{ascii}
+use Rattle.text.specs.Numbers.{decimal}
+use Rattle.text.specs.Output.{lineText}
+use Rattle.sheet.specs.Reading.{Reading, reads, refuses, reading}
+use Rattle.compound.specs.Call.{Lent, lentRows, workPlaces, curveAnswer, curveLent}
+
+-- ---- lines
+abbrev pub totalLine : ℕ → (low high bound : ℤ) → List ℕ
+totalLine total low high bound = lineText (decimal (pos total)) (low ∷ high ∷ bound ∷ [])
+
+abbrev pub at : List ℤ → ℕ → ℤ
+at row x = getD row x (pos 0)
+
+-- the lines of the first totals of three rows
+unfoldable pub totalLines : ℕ → (low high bound : List ℤ) → List ℕ
+totalLines zero low high bound = []
+totalLines (suc x) low high bound = totalLines x low high bound ++ totalLine x (at low x) (at high x) (at bound x)
+
+abbrev pub tableText : ℕ → (low high bound : List ℤ) → List ℕ
+tableText totals low high bound = ascii "TOTAL LOW HIGH BOUND\n" ++ totalLines totals low high bound
+
+abbrev pub refusalLine : Answer → List ℕ
+refusalLine answer = lineText (ascii "REFUSED") (pos (answer .number) ∷ pos (answer .place) ∷ [])
+
+-- ---- the program's own rows, which it lends to the calls: 501 places are enough for every X, and 500 weights for every m
+abbrev pub mostTotals : ℕ
+mostTotals = 501
+
+abbrev pub mostWeights : ℕ
+mostWeights = 500
+
+abbrev pub zeros : ℕ → List ℤ
+zeros places = replicate places (pos 0)
+
+abbrev pub programRows : Lent
+programRows = lentRows (zeros mostTotals) (zeros mostTotals) (zeros mostTotals) (zeros (workPlaces mostTotals))
+
+-- ---- the text
+-- of the rows that the curve call leaves
+abbrev pub rowsText : Job → Lent → List ℕ
+rowsText job rows = tableText (job .last + 1) (rows .low) (rows .high) (rows .bound)
+
+unfoldable pub curveText : Job → List ℕ → List ℕ
+curveText job weights = cond (isAccepted (curveAnswer job weights programRows))
+    (rowsText job (curveLent job weights programRows))
+    (refusalLine (curveAnswer job weights programRows))
+
+abbrev pub readingText : Reading → List ℕ
+readingText (reads sheet) = curveText (sheet .job) (sheet .weights)
+readingText (refuses number line) = refusalLine (refused number line)
+
+-- what the program writes on the bytes of a sheet
+unfoldable pub reportText : List ℕ → List ℕ
+reportText s = readingText (reading mostWeights s)

@@ -1,0 +1,31 @@
+-- The program's rows and buffers are always large enough.
+use mathlib.Core.Path.{_≡_}
+use mathlib.Core.List.{List}
+use Prim.Native.Nat.{ℕ, _≤_}
+use lib.ListN.{length, take}
+use Rattle.model.specs.declared.Job.{Job}
+use Rattle.sheet.specs.Reading.{refuses, reading}
+use Rattle.compound.specs.Call.{curveAnswer}
+use Rattle.report.specs.Report.{mostWeights, programRows, reportText}
+
+-- no sheet has more weights than the row lent to the reader has places: 27 does not arise
+abbrev pub WeightsFit : Type 0
+WeightsFit = (s : List ℕ) (line : ℕ) → ¬ (reading mostWeights s ≡ refuses 27 line)
+
+-- nor has any job more totals than the rows lent to the curve: 8 does not arise
+abbrev pub TotalsFit : Type 0
+TotalsFit = (job : Job) (weights : List ℕ) → ¬ (curveAnswer job weights programRows .number ≡ 8)
+
+-- the bytes of the output's buffer
+abbrev pub room : ℕ
+room = 65536
+
+abbrev pub TextFits : Type 0
+TextFits = (s : List ℕ) → length (reportText s) ≤ room
+
+-- the bytes of the input's buffer, one more than a sheet may have; a longer input is refused for its length, and so are its first bytes
+abbrev pub inputBytes : ℕ
+inputBytes = 16385
+
+abbrev pub InputFits : Type 0
+InputFits = (s : List ℕ) → reportText (take inputBytes s) ≡ reportText s

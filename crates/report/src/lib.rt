@@ -1,0 +1,62 @@
+// The program's text: from a sheet's bytes to the bytes that `curve` writes.
+
+mod lines;
+
+use compound::CurveAnswer;
+use model::Job;
+use sheet::LineAnswer;
+ghost use mathlib.Core.Path.{_≡_};
+ghost use lib.ListN.{length};
+ghost use Rattle.algebra.specs.Slice.{written};
+ghost use Rattle.text.specs.Output.{output, Puts};
+ghost use Rattle.report.specs.Report.{curveText, reportText};
+
+// The most weights that a sheet may have.
+const MOST_WEIGHTS: usize = 500;
+
+// The most totals that a job may have, and the places of the work row for as many.
+const MOST_TOTALS: usize = 501;
+
+const WORK_PLACES: usize = 9 * MOST_TOTALS;
+
+// Room for every text: the longest has less than 90 bytes for each total.
+pub const ROOM: usize = 65_536;
+
+// The table of a job's curve, or the line that refuses the job.
+fn put_curve(out: &mut [u8], job: Job, weights: &[u64]) -> usize
+    ensures { λ r. ⌜ Puts (curveText job (now (weights .entry))) (output (now (out .entry)) 0) (output (now (out .exit)) r) ⌝ }
+{
+    let mut low = [0i64; MOST_TOTALS];
+    let mut high = [0i64; MOST_TOTALS];
+    let mut bound = [0i64; MOST_TOTALS];
+    let mut work = [0i64; WORK_PLACES];
+    let answer = compound::curve(job, weights, &mut low, &mut high, &mut bound, &mut work);
+    match answer {
+        CurveAnswer::Accepted => {
+            lines::put_table(out, job.last as usize + 1, &low, &high, &bound)
+        }
+        CurveAnswer::Refused(reason, place) => {
+            lines::put_refusal(out, compound::reason_number(reason), place)
+        }
+    }
+}
+
+// What the program writes on a sheet, put into the first places of `out`; the answer is the number of its bytes.
+pub fn report(sheet: &[u8], out: &mut [u8; ROOM]) -> usize
+    ensures count { λ r. ⌜ r ≡ length (reportText (now (sheet .entry))) ⌝ }
+    ensures bytes { λ r. ⌜ now (out .exit) ≡ written (reportText (now (sheet .entry))) (now (out .entry)) ⌝ }
+{
+    let mut row = [0u64; MOST_WEIGHTS];
+    let read = sheet::read_sheet(sheet, &mut row);
+    let answer = read.answer;
+    match answer {
+        LineAnswer::Accepted => {
+            let job = read.job;
+            let count = read.count;
+            put_curve(out, job, &row[..count])
+        }
+        LineAnswer::Refused(reason, line) => {
+            lines::put_refusal(out, sheet::reason_number(reason), line)
+        }
+    }
+}

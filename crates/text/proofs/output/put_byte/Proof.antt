@@ -1,0 +1,15 @@
+-- By whether the row has a place for the byte.
+use borrow.Author.Needs.{needs}
+use Rattle.text.proofs.Put.{put-here, put-past}
+use Rattle.text.proofs.output.put_byte.Statement.{statement}
+use Rattle.text.proofs.output.put_byte.Tie as tie
+
+returns : tie.Need-returns
+returns c = put-here _ _ _ (c .if1 .taken)
+
+returns-2 : tie.Need-returns-2
+returns-2 c = put-past _ _ _ (c .if1 .left)
+
+pub put-byte-spec : {M : Type 1} → statement M
+put-byte-spec =
+    tie.close (tie.spec (λ c. search needs) (λ c. search needs) (λ c. search needs) (λ c. search needs) returns returns-2)

@@ -1,0 +1,66 @@
+// Text put into a lent row, one piece after the other. Each function answers the place behind its piece. A byte that has no place in the
+// row is dropped, and the place answered is then one past the row's end.
+
+ghost use mathlib.Core.List.{[], _∷_, _++_};
+ghost use mathlib.Core.Path.{_≡_};
+ghost use lib.IntN.{natAbs};
+ghost use Rattle.text.specs.Bytes.{space};
+ghost use Rattle.text.specs.Numbers.{digits, decimal};
+ghost use Rattle.text.specs.Output.{output, Puts};
+
+pub fn put_byte(out: &mut [u8], at: usize, b: u8) -> usize
+    ensures { λ r. ⌜ Puts (b ∷ []) (output (now (out .entry)) at) (output (now (out .exit)) r) ⌝ }
+{
+    if at < out.len() {
+        out[at] = b;
+        at + 1
+    } else {
+        out.len() + 1
+    }
+}
+
+pub fn put_bytes(out: &mut [u8], at: usize, bytes: &[u8]) -> usize
+    ensures { λ r. ⌜ Puts (now (bytes .entry)) (output (now (out .entry)) at) (output (now (out .exit)) r) ⌝ }
+{
+    let mut next = at;
+    for i in 0..bytes.len() {
+        next = put_byte(out, next, bytes[i]);
+    }
+    next
+}
+
+// The digits of a number: those of its tenth, and then its last.
+pub fn put_digits(out: &mut [u8], at: usize, n: u64) -> usize
+    ensures { λ r. ⌜ Puts (digits n) (output (now (out .entry)) at) (output (now (out .exit)) r) ⌝ }
+{
+    if n < 10 {
+        return put_byte(out, at, b'0' + n as u8);
+    }
+    let next = put_digits(out, at, n / 10);
+    put_byte(out, next, b'0' + (n % 10) as u8)
+}
+
+// A negative number's size is taken one short, which fits, and then made whole.
+pub fn size(z: i64) -> u64
+    ensures { λ r. ⌜ r ≡ natAbs z ⌝ }
+{
+    if z < 0 { (-1 - z) as u64 + 1 } else { z as u64 }
+}
+
+pub fn put_decimal(out: &mut [u8], at: usize, z: i64) -> usize
+    ensures { λ r. ⌜ Puts (decimal z) (output (now (out .entry)) at) (output (now (out .exit)) r) ⌝ }
+{
+    if z < 0 {
+        let next = put_byte(out, at, b'-');
+        return put_digits(out, next, size(z));
+    }
+    put_digits(out, at, size(z))
+}
+
+// A space and a number: a further word of a line.
+pub fn put_next(out: &mut [u8], at: usize, z: i64) -> usize
+    ensures { λ r. ⌜ Puts (space ∷ decimal z) (output (now (out .entry)) at) (output (now (out .exit)) r) ⌝ }
+{
+    let next = put_byte(out, at, b' ');
+    put_decimal(out, next, z)
+}
