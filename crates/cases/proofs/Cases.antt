@@ -17,12 +17,15 @@ use Rattle.enclosure.specs.Entry.{scaled, rounded}
 use Rattle.compound.specs.Curve.{factor, sumsZero, sumsNext, entryAt, withNext, history, curveRows}
 use Rattle.compound.specs.Call.{Lent, lentRows, firstFault, curveAnswer, rowAfter, curveLent}
 use Rattle.quantile.specs.Call.{Quantiles, quantileOf, quantiles}
-use Rattle.text.specs.Lines.{before, after, has, afterLines, longer, words}
-use Rattle.text.specs.Numbers.{valueFrom, number}
+use Rattle.text.specs.Bytes.{ascii}
+use Rattle.text.specs.Lines.{before, after, has, afterLines, longer, words, spaced}
+use Rattle.text.specs.Numbers.{valueFrom, number, digitsWithin, decimal}
+use Rattle.text.specs.Output.{lineText}
 use Rattle.sheet.specs.Line.{allNumbers, line}
 use Rattle.sheet.specs.Reading.{weightLines, severityLine, lastLine, startLine, termLines, lawLine, reading}
 use Rattle.sheet.specs.Call.{Told, told, rowOnReturn, firstNoNumber, faultyWord}
-use Rattle.cases.specs.Cases.{Case, curve, reader, level, Holds, cases, CasesHold, test}
+use Rattle.report.specs.Report.{totalLines, curveText, reportText}
+use Rattle.cases.specs.Cases.{Case, curve, reader, level, program, Holds, cases, CasesHold, test}
 use Rattle.cases.specs.Cases.{numbers, sameAnswer, sameRow, rows, sameLent, wholeNumbers, terms, sameBytes, sameTold}
 use Rattle.cases.specs.Cases.{queryNumbers, sameQuantiles}
 
@@ -103,6 +106,7 @@ sound (reader s row says after word) t =
     handed : Bool
     handed = sameBytes (faultyWord (length row) s) word
 sound (level low high L answer) t = same-quantiles (quantiles low high L) answer t
+sound (program s text) t = same-bytes (reportText s) (ascii text) t
 
 pub cases-hold : CasesHold
 unfolding curveAnswer curveLent rowAfter firstFault curveRows history withNext entryAt sumsNext sumsZero factor rounded scaled
@@ -110,4 +114,5 @@ unfolding curveAnswer curveLent rowAfter firstFault curveRows history withNext e
     reading lawLine termLines startLine lastLine severityLine weightLines line allNumbers firstNoNumber
     number valueFrom words longer afterLines before after has
     quantiles quantileOf
+    reportText curveText totalLines lineText spaced decimal digitsWithin
 cases-hold c m = sound c (each-passes Case test cases tt c m)

@@ -18,6 +18,7 @@ use Rattle.quantile.specs.Call.{Quantiles, quantiles}
 use Rattle.text.specs.Bytes.{ascii}
 use Rattle.sheet.specs.Reading.{reading}
 use Rattle.sheet.specs.Call.{Told, told, rowOnReturn, faultyWord}
+use Rattle.report.specs.Report.{reportText}
 
 -- a call of the tool and what the paper says of it
 pub data Case : Type 0 where
@@ -27,6 +28,8 @@ pub data Case : Type 0 where
   reader : List ℕ → List ℕ → Told → List ℕ → List ℕ → Case
   -- the low row, the high row and the level, the answer with its two totals
   level : List ℤ → List ℤ → ℤ → Quantiles → Case
+  -- the sheet's bytes, and the text that the program writes
+  program : List ℕ → String → Case
 
 -- what a row claims
 abbrev pub Holds : Case → Type 0
@@ -34,6 +37,7 @@ Holds (curve job weights lent answer after) = (curveAnswer job weights lent ≡ 
 Holds (reader s row says after word) =
     (told (reading (length row) s) ≡ says) × (rowOnReturn (reading (length row) s) row ≡ after) × (faultyWord (length row) s ≡ word)
 Holds (level low high L answer) = quantiles low high L ≡ answer
+Holds (program s text) = reportText s ≡ ascii text
 
 -- ---- jobs
 -- terms that are not written are zero
@@ -170,8 +174,15 @@ cases =
     ∷ row (law 5 1 (negℤ (pos 1) ∷ []) (pos 3 ∷ [])) startP2 4 (1 ∷ []) (refused 1 0) untouched
     -- P1's sheet holds P1's job
     ∷ acceptance (sheet "TERM 0 1" "W 1") jobP1 (1 ∷ 1 ∷ []) (1 ∷ 1 ∷ 7 ∷ [])
+    -- and the program writes P1's rows
+    ∷ program (sheet "TERM 0 1" "W 1")
+    "TOTAL LOW HIGH BOUND\n0 367879441 367879442 1\n1 183939720 183939721 2\n2 229924650 229924652 2\n3 99634015 99634016 2\n"
+    -- P3 and P6 as sheets: a low below zero, a job that the curve refuses
+    ∷ program (ascii "LAW 1 2\nTERM -1 0\nSTART 1 2\nLAST 1\nSEVERITY 1\nW 1\n") "TOTAL LOW HIGH BOUND\n0 1 2 1\n1 -1 0 2\n"
+    ∷ program (ascii "LAW 1 1\nTERM 0 1\nSTART 0 1000000000\nLAST 1\nSEVERITY 1\nW 1\n") "REFUSED 10 1\n"
     -- P11: "the sheet above with `W 10n5` as its line 6 gives 24 at line 6 with the word `10n5`"
     ∷ refusal (sheet "TERM 0 1" "W 10n5") 24 6 "10n5"
+    ∷ program (sheet "TERM 0 1" "W 10n5") "REFUSED 24 6\n"
     -- P12: "with `TERM -0 1` as its line 2 it gives 24 at line 2 with the word `-0`"
     ∷ refusal (sheet "TERM -0 1" "W 1") 24 2 "-0"
     -- "`W  1` gives 23"
@@ -250,3 +261,4 @@ test (reader s row says after word) =
     sameTold (told (reading (length row) s)) says
     && (sameBytes (rowOnReturn (reading (length row) s) row) after && sameBytes (faultyWord (length row) s) word)
 test (level low high L answer) = sameQuantiles (quantiles low high L) answer
+test (program s text) = sameBytes (reportText s) (ascii text)

@@ -24,6 +24,13 @@ pub first-fails : (c : Condition) (rest : List Condition) → c .holds ≡ false
 unfolding firstOf
 first-fails c rest e = rw e
 
+-- what holds of the first condition's refusal, or else of the answer of the rest, holds of the answer
+pub by-first : (P : Answer → Type 0) (t : Bool) (number place : ℕ) (rest : List Condition) → (t ≡ true → P (refused number place))
+    → (t ≡ false → P (firstOf rest)) → P (firstOf (condition t number place ∷ rest))
+unfolding firstOf
+by-first P true number place rest this others = this refl
+by-first P false number place rest this others = others refl
+
 -- the first condition of a list that refuses nothing
 pub passed : (t : Bool) (number place : ℕ) (rest : List Condition) → firstOf (condition t (suc number) place ∷ rest) ≡ accepted
     → (t ≡ false) × (firstOf rest ≡ accepted)

@@ -1,2 +1,3 @@
 -- What is proved of the program's text.
 pub mod Room
+pub mod Outcome

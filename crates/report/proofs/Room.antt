@@ -17,8 +17,8 @@ use Rattle.algebra.specs.Table.{sameList}
 use Rattle.model.specs.declared.Law.{Law}
 use Rattle.model.specs.declared.Start.{Start}
 use Rattle.model.specs.declared.Job.{Job}
-use Rattle.model.specs.Answer.{Answer, Condition, refused, isAccepted, condition, firstOf, outside}
-use Rattle.model.proofs.Answer.{first-none, within}
+use Rattle.model.specs.Answer.{Answer, accepted, refused, isAccepted, condition, firstOf, outside}
+use Rattle.model.proofs.Answer.{first-none, by-first, within}
 use Rattle.text.specs.Bytes.{ascii, lineEnd}
 use Rattle.text.specs.Lines.{before, after, has, words, spaced}
 use Rattle.text.specs.Numbers.{decimal}
@@ -34,10 +34,13 @@ use Rattle.report.specs.Report.{rowsText, curveText, readingText, report
 use Rattle.report.specs.Room.{WeightsFit, TotalsFit, room, TextFits, inputBytes, InputFits}
 
 -- ---- the weights
--- a sheet that is read, or that is refused for itself and not for the row
+-- the refusals that are for the sheet itself, and not for the row
+abbrev ForSheet : ℕ → Type 0
+ForSheet number = (21 ≤ number) × (number ≤ 26)
+
 abbrev pub BySheet : Reading → Type 0
 BySheet (reads sheet) = Unit {0}
-BySheet (refuses number n) = (21 ≤ number) × (number ≤ 26)
+BySheet (refuses number n) = ForSheet number
 
 -- a line itself is refused by 22, 23 or 24; else the next lines decide
 goes-on : (signs : Bool) (keyword : List ℕ) (count : ℕ) (s : List ℕ) (n : ℕ) (next : List ℤ → List ℕ → Reading)
@@ -59,7 +62,7 @@ goes-on signs keyword count s n next other = by (has lineEnd s) (words (before l
     by true (w ∷ ws) = of-form (sameList eqb w keyword && eqb (length ws) count) ws
 
 -- a test of the line's numbers, and what follows where it fails
-unless : (t : Bool) (number n : ℕ) (r : Reading) → (21 ≤ number) × (number ≤ 26) → (t ≡ false → BySheet r) → BySheet (cond t (refuses number n) r)
+unless : (t : Bool) (number n : ℕ) (r : Reading) → ForSheet number → (t ≡ false → BySheet r) → BySheet (cond t (refuses number n) r)
 unless true number n r this others = this
 unless false number n r this others = others refl
 
@@ -95,7 +98,8 @@ module _ (places : ℕ) (enough : 500 ≤ places) where
   law-by-sheet : (s : List ℕ) → BySheet (lawLine places s)
   unfolding lawLine
   law-by-sheet s = goes-on false LAW 2 s 1 _ λ zs rest.
-      unless (outside 1 4 (whole zs 0)) 25 1 _ (omega arith, omega arith) λ _. terms-by-sheet (noTerms (whole zs 0) (whole zs 1)) 0 (whole zs 0) rest
+      unless (outside 1 4 (whole zs 0)) 25 1 _ (omega arith, omega arith) λ _.
+      terms-by-sheet (noTerms (whole zs 0) (whole zs 1)) 0 (whole zs 0) rest
 
   pub reading-by-sheet : (s : List ℕ) → BySheet (reading places s)
   unfolding reading
@@ -103,46 +107,40 @@ module _ (places : ℕ) (enough : 500 ≤ places) where
 
 pub weights-fit : WeightsFit
 weights-fit s n e =
-    let sheets : (21 ≤ 27) × (27 ≤ 26) = subst BySheet e (reading-by-sheet mostWeights (NL.le-refl mostWeights) s) in
+    let sheets : ForSheet 27 = subst BySheet e (reading-by-sheet mostWeights (NL.le-refl mostWeights) s) in
     omega arith
 
 -- ---- the totals
--- by cases on the first condition of a list
-first-or-rest : (P : Answer → Type 0) (t : Bool) (number place : ℕ) (rest : List Condition) → (t ≡ true → P (refused number place))
-    → (t ≡ false → P (firstOf rest)) → P (firstOf (condition t number place ∷ rest))
-unfolding firstOf
-first-or-rest P true number place rest this others = this refl
-first-or-rest P false number place rest this others = others refl
-
 -- the answer has a property where the refusals by 1 to 7 have it, and where the conditions after them give it for at most 501 totals
 after-last : (job : Job) (weights : List ℕ) (P : Answer → Type 0) → ((i place : ℕ) → i < 7 → P (refused (suc i) place))
     → (job .last ≤ 500 → P (firstOf (condition (tooShort (job .last + 1) programRows) 8 0 ∷ faults job weights)))
     → P (curveAnswer job weights programRows)
 unfolding curveAnswer
 after-last job weights P early later =
-    first-or-rest P _ 1 _ _ (λ _. early 0 _ (omega arith)) λ _.
-    first-or-rest P _ 2 _ _ (λ _. early 1 _ (omega arith)) λ _.
-    first-or-rest P _ 3 _ _ (λ _. early 2 _ (omega arith)) λ _.
-    first-or-rest P _ 4 _ _ (λ _. early 3 _ (omega arith)) λ _.
-    first-or-rest P _ 5 _ _ (λ _. early 4 _ (omega arith)) λ _.
-    first-or-rest P _ 6 _ _ (λ _. early 5 _ (omega arith)) λ _.
-    first-or-rest P _ 7 _ _ (λ _. early 6 _ (omega arith)) λ last. later (ltb-false 500 (job .last) last)
+    by-first P _ 1 _ _ (λ _. early 0 _ (omega arith)) λ _.
+    by-first P _ 2 _ _ (λ _. early 1 _ (omega arith)) λ _.
+    by-first P _ 3 _ _ (λ _. early 2 _ (omega arith)) λ _.
+    by-first P _ 4 _ _ (λ _. early 3 _ (omega arith)) λ _.
+    by-first P _ 5 _ _ (λ _. early 4 _ (omega arith)) λ _.
+    by-first P _ 6 _ _ (λ _. early 5 _ (omega arith)) λ _.
+    by-first P _ 7 _ _ (λ _. early 6 _ (omega arith)) λ last. later (ltb-false 500 (job .last) last)
 
 -- rows for `most` totals are long enough for fewer
 long-enough : (places most : ℕ) → places ≤ most
     → tooShort places (lentRows (zeros most) (zeros most) (zeros most) (zeros (workPlaces most))) ≡ false
 long-enough places most h = simp (length-replicate, le-ltb most places h, le-ltb (workPlaces most) (workPlaces places) (omega arith))
 
--- an acceptance, or a refusal by another number than 8
-abbrev OtherAnswer : Answer → Type 0
-OtherAnswer answer = ¬ (answer .number ≡ 8)
+-- so the answer is an acceptance or a refusal, but by 8
+pub answers : (job : Job) (weights : List ℕ) (P : Answer → Type 0) → P accepted
+    → ((i place : ℕ) → ¬ (suc i ≡ 8) → P (refused (suc i) place)) → P (curveAnswer job weights programRows)
+answers job weights P acceptance refusal = after-last job weights P (λ i place h. refusal i place (λ e. omega arith)) λ last.
+    by-first P (tooShort (job .last + 1) programRows) 8 _ _
+    (λ t. absurd (false≢true (sym (long-enough (job .last + 1) mostTotals (omega arith)) ∙ t))) λ _.
+    by-first P _ 9 _ _ (λ _. refusal 8 _ (λ e. omega arith)) λ _.
+    by-first P _ 10 _ _ (λ _. refusal 9 _ (λ e. omega arith)) λ _. rw first-none acceptance
 
 pub totals-fit : TotalsFit
-totals-fit job weights = after-last job weights OtherAnswer (λ i place h e. omega arith) λ last.
-    first-or-rest OtherAnswer (tooShort (job .last + 1) programRows) 8 _ _
-    (λ t. absurd (false≢true (sym (long-enough (job .last + 1) mostTotals (omega arith)) ∙ t))) λ _.
-    first-or-rest OtherAnswer _ 9 _ _ (λ _ e. omega arith) λ _.
-    first-or-rest OtherAnswer _ 10 _ _ (λ _ e. omega arith) λ _. rw first-none (λ e. omega arith)
+totals-fit job weights = answers job weights (λ a. ¬ (a .number ≡ 8)) (λ e. omega arith) (λ i place other. other)
 
 -- ---- the text
 -- a space goes before each number
@@ -207,6 +205,6 @@ input-fits s = ap readingText (by (ltb 16384 (length s)) refl)
     by : (t : Bool) → ltb 16384 (length s) ≡ t → reading mostWeights (take inputBytes s) ≡ reading mostWeights s
     by true e =
         let long = ltb-true 16384 (length s) e in
-        too-long mostWeights (take inputBytes s) (omega (arith, length-take-le inputBytes s long))
+        too-long mostWeights (take inputBytes s) (omega (arith, length-take-le inputBytes s (omega arith)))
         ∙ sym (too-long mostWeights s long)
     by false e = ap (reading mostWeights) (take-all inputBytes s (omega (arith, ltb-false 16384 (length s) e)))

@@ -1,15 +1,18 @@
 -- The program: "It writes the line below in capitals, then one line for each total: total, low, high, bound. On refusal it writes one line
 -- only: `REFUSED`, the number and the place or line. Single spaces stand between words, and every line has a line end."
-use mathlib.Core.Bool.{cond}
+use mathlib.Core.Path.{_≡_}
+use mathlib.Core.Bool.{false, cond}
+use mathlib.Core.Logic.{_⊎_}
 use mathlib.Core.List.{List, [], _∷_, _++_}
 use Prim.Native.Nat.{ℕ, zero, suc, _+_}
 use lib.IntN.{ℤ, pos}
 use lib.ListN.{getD, replicate}
 use Rattle.model.specs.declared.Job.{Job}
-use Rattle.model.specs.Answer.{Answer, refused, isAccepted}
+use Rattle.model.specs.Answer.{Answer, accepted, refused, isAccepted}
 use Rattle.text.specs.Bytes.{ascii}
 use Rattle.text.specs.Numbers.{decimal}
 use Rattle.text.specs.Output.{lineText}
+use Rattle.sheet.specs.Sheet.{Sheet, sheetText}
 use Rattle.sheet.specs.Reading.{Reading, reads, refuses, reading}
 use Rattle.compound.specs.Call.{Lent, lentRows, workPlaces, curveAnswer, curveLent}
 
@@ -61,3 +64,19 @@ readingText (refuses number line) = refusalLine (refused number line)
 -- what the program writes on the bytes of a sheet
 unfoldable pub reportText : List ℕ → List ℕ
 reportText s = readingText (reading mostWeights s)
+
+-- ---- what is proved of it
+-- a table is written where the bytes are, one by one, the text of a sheet whose job is accepted; it shows what the call leaves in the rows
+pub record Table (s : List ℕ) : Type 0 where
+  pub sheet : Sheet
+  pub bytes : s ≡ sheetText sheet
+  pub answer : curveAnswer (sheet .job) (sheet .weights) programRows ≡ accepted
+  pub text : reportText s ≡ rowsText (sheet .job) (curveLent (sheet .job) (sheet .weights) programRows)
+
+pub record Refusal (s : List ℕ) : Type 0 where
+  pub answer : Answer
+  pub refused : isAccepted answer ≡ false
+  pub text : reportText s ≡ refusalLine answer
+
+abbrev pub TableOrRefusal : Type 0
+TableOrRefusal = (s : List ℕ) → Table s ⊎ Refusal s

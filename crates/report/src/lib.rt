@@ -19,7 +19,10 @@ const MOST_TOTALS: usize = 501;
 
 const WORK_PLACES: usize = 9 * MOST_TOTALS;
 
-// Room for every text: the longest has less than 90 bytes for each total.
+// One byte more than a sheet may have, so that a longer one is told from it.
+pub const INPUT_BYTES: usize = 16_385;
+
+// Room for every text: a line has less than 90 bytes.
 pub const ROOM: usize = 65_536;
 
 // The table of a job's curve, or the line that refuses the job.

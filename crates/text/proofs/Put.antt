@@ -1,5 +1,5 @@
--- Texts put one after the other are one text, since the definition goes from byte to byte. From a row's start on each byte is written behind
--- those before it, as long as the row has places.
+-- Texts put one after the other are one text, since the definition goes from byte to byte. From a row's start on each byte is written
+-- behind those before it, as long as the row has places.
 use mathlib.Core.Path.{_≡_, refl, sym, ap, _∙_}
 use mathlib.Core.List.{List, [], _∷_, _++_, append-nil, append-assoc}
 use Prim.Native.Nat.{ℕ, suc, _+_, _≤_, _<_, min}

@@ -40,4 +40,5 @@ pub +put-digits-spec : {M : Type 1} → statement M
     let last = c .before .before in
     let tenth = last .before .before .before .before in
     let number = tenth .before .before in
-    rw (digits-last _ (number .if1 .left) (number .before .before .fits .n .fits)) (tenth .put-digits .ensures then last .put-byte2 .ensures))
+    rw (digits-last _ (number .if1 .left) (number .before .before .fits .n .fits))
+    (tenth .put-digits .ensures then last .put-byte2 .ensures))

@@ -1,0 +1,41 @@
+-- By cases on what the reader reads, and on whether the curve accepts it.
+use mathlib.Core.Path.{_≡_, refl, ap, subst, _∙_}
+use mathlib.Core.Bool.{false}
+use mathlib.Core.Logic.{_⊎_, inl, inr}
+use mathlib.Core.List.{List}
+use Prim.Native.Nat.{ℕ}
+use native.Mathlib.Nat.{le-refl}
+use native.Mathlib.Omega.{arith}
+use borrow.Author.Tests.{ne-eqb}
+use lib.Dec.{eqb·suc-zero}
+use Rattle.model.specs.declared.Job.{Job}
+use Rattle.model.specs.Answer.{Answer, accepted, refused, isAccepted}
+use Rattle.sheet.specs.Sheet.{Sheet}
+use Rattle.sheet.specs.Reading.{Reading, reads, refuses, reading}
+use Rattle.sheet.proofs.Taken.{takes-only-texts}
+use Rattle.compound.specs.Call.{curveAnswer}
+use Rattle.report.specs.Report.{mostWeights, programRows, curveText, readingText, reportText, Table, Refusal, TableOrRefusal}
+use Rattle.report.proofs.Room.{BySheet, reading-by-sheet, answers}
+
+abbrev Decided : Answer → Type 0
+Decided answer = (answer ≡ accepted) ⊎ (isAccepted answer ≡ false)
+
+decided : (job : Job) (weights : List ℕ) → Decided (curveAnswer job weights programRows)
+decided job weights = answers job weights Decided (inl refl) (λ i place other. inr (eqb·suc-zero i))
+
+pub table-or-refusal : TableOrRefusal
+unfolding reportText curveText
+table-or-refusal s = by (reading mostWeights s) refl
+  where
+    by-curve : (sheet : Sheet) → reading mostWeights s ≡ reads sheet → Decided (curveAnswer (sheet .job) (sheet .weights) programRows)
+        → Table s ⊎ Refusal s
+    by-curve sheet e (inl a) =
+        inl (record { sheet = sheet; bytes = takes-only-texts mostWeights s sheet e .2; answer = a; text = rw (e, a) })
+    by-curve sheet e (inr a) =
+        inr (record { answer = curveAnswer (sheet .job) (sheet .weights) programRows; refused = a; text = rw (e, a) })
+
+    by : (r : Reading) → reading mostWeights s ≡ r → Table s ⊎ Refusal s
+    by (reads sheet) e = by-curve sheet e (decided (sheet .job) (sheet .weights))
+    by (refuses number n) e =
+        let own = subst BySheet e (reading-by-sheet mostWeights (le-refl mostWeights) s) in
+        inr (record { answer = refused number n; refused = ne-eqb number 0 (λ z. omega arith); text = rw e })
