@@ -1,0 +1,41 @@
+"""What the program `curve` writes on a sheet, as the paper says it: the table of the sheet's curve, or one line that refuses it.
+As a script it reads the sheet from standard input and writes this to standard output."""
+import sys
+
+from outward import Lent, curve
+from sheet import read_sheet
+
+MOST_WEIGHTS = 500
+MOST_TOTALS = 501
+
+
+def long_enough():
+    """Rows for every last total that the curve call accepts; a greater one is refused by 7 before their places count."""
+    return Lent(*([0] * MOST_TOTALS for _ in range(3)), [0] * (9 * MOST_TOTALS))
+
+
+def refusal(number, place):
+    return f"REFUSED {number} {place}\n"
+
+
+def table(lent, last):
+    rows = zip(range(last + 1), lent.low, lent.high, lent.bound)
+    return "TOTAL LOW HIGH BOUND\n" + "".join(f"{total} {low} {high} {bound}\n" for total, low, high, bound in rows)
+
+
+def text(sheet):
+    read = read_sheet(sheet, MOST_WEIGHTS)
+    if read.number:
+        return refusal(read.number, read.line)
+    lent = long_enough()
+    number, place = curve(read.job, lent)
+    return refusal(number, place) if number else table(lent, read.job.last)
+
+
+def output(sheet):
+    """The program reads 16,385 bytes at most; that many are refused by 21, as are all the bytes of a longer sheet."""
+    return text(sheet).encode()
+
+
+if __name__ == "__main__":
+    sys.stdout.buffer.write(output(sys.stdin.buffer.read()))
