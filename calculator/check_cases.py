@@ -12,7 +12,7 @@ LAWS = {
     "negativeBinomial": exact.negative_binomial(2, Fraction(1, 3)),
     "alternating": exact.geometric(Fraction(-1, 2)),
     "together": exact.together(exact.negative_binomial(2, Fraction(1, 2)), exact.binomial(2, Fraction(1, 2))),
-    "paired": exact.pairs(Fraction(1, 2)),
+    "paired": exact.bunches(2, exact.poisson(Fraction(1, 2))),
 }
 TABLES = {"single": [1], "two": [1, 1], "gap": [2, 0, 1], "four": [3, 1, 4, 1]}
 

@@ -5,10 +5,9 @@ import pathlib
 import re
 import sys
 from collections import Counter
-from fractions import Fraction
 from typing import NamedTuple
 
-import exact
+from enclosed import outside
 from level import Answer as Totals, level_query
 from outward import Job, Lent, curve
 from sheet import NO_JOB, read_sheet
@@ -166,28 +165,13 @@ def level_differences(row):
         yield f"the table has {row.answer}, the calculator {answer}"
 
 
-def outside(row):
-    """Exact amounts outside low to high, for both starts and one between; and gaps above their bound."""
-    job, answer, after = row
-    if answer != (0, 0):
-        return
-    count = exact.by_terms(job.divisor, job.a[:job.order], job.b[:job.order])
-    for x in range(job.last + 1):
-        low, high, bound = after.low[x], after.high[x], after.bound[x]
-        if high - low > bound:
-            yield f"at {x}: {low} to {high} is wider than {bound}"
-        for start in (job.low_start, Fraction(job.low_start + job.high_start, 2), job.high_start):
-            amount = exact.amount(count, job.weights, start, x)
-            if not low <= amount <= high:
-                yield f"at {x}: the exact amount {amount} for the start {start} is not from {low} to {high}"
-
-
 def differences(row):
     if isinstance(row, Sheet):
         return list(sheet_differences(row))
     if isinstance(row, Level):
         return list(level_differences(row))
-    return list(curve_differences(row)) or list(outside(row))
+    faults = list(curve_differences(row))
+    return faults or (list(outside(row.job, row.after)) if row.answer == (0, 0) else [])
 
 
 def main():

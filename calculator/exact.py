@@ -2,7 +2,7 @@
 the closed forms of the laws; `by_terms` alone takes them from the paper's definition, for a law that is known by its terms."""
 from fractions import Fraction
 from functools import cache
-from math import comb, factorial
+from math import comb, factorial, prod
 
 
 def poisson(mean):
@@ -16,7 +16,8 @@ def binomial(trials, chance):
 
 
 def negative_binomial(shape, chance):
-    return lambda n: comb(shape + n - 1, n) * Fraction(chance) ** n
+    """The shape need not be whole."""
+    return lambda n: prod((Fraction(shape) + j) / (j + 1) for j in range(n)) * Fraction(chance) ** n
 
 
 def geometric(ratio):
@@ -24,14 +25,22 @@ def geometric(ratio):
     return lambda n: Fraction(ratio) ** n
 
 
-def together(first, second):
-    """Claims of two independent laws in one year."""
-    return lambda n: sum(first(j) * second(n - j) for j in range(n + 1))
+def finite(*chances):
+    """At most so many claims, by their chances over the chance of none: that of one claim, of two, .."""
+    return lambda n: Fraction([1, *chances][n]) if n <= len(chances) else Fraction(0)
 
 
-def pairs(mean):
-    """Claims that come two at a time, the pairs by a Poisson law."""
-    return lambda n: poisson(mean)(n // 2) if n % 2 == 0 else Fraction(0)
+def together(first, *others):
+    """Claims of independent laws in one year."""
+    if not others:
+        return first
+    rest = together(*others)
+    return cache(lambda n: sum(first(j) * rest(n - j) for j in range(n + 1)))
+
+
+def bunches(size, law):
+    """Claims that come `size` at a time, the bunches by another law."""
+    return lambda n: law(n // size) if n % size == 0 else Fraction(0)
 
 
 def by_terms(divisor, a, b):
@@ -46,16 +55,24 @@ def by_terms(divisor, a, b):
     return coefficient
 
 
-def convolutions(weights, folds, total):
-    """The chance that n claims come to `total`, for n from 0 to `folds`."""
+def convolutions(weights, last):
+    """For n from 0 to `last`: the chances that n claims come to 0, 1, .. `last`."""
     whole = sum(weights)
-    sizes = [Fraction(0)] + [Fraction(w, whole) for w in weights]
-    row = [Fraction(1)] + [Fraction(0)] * total
-    for _ in range(folds + 1):
-        yield row[total]
-        row = [sum(row[x - y] * sizes[y] for y in range(1, min(x, len(weights)) + 1)) for x in range(total + 1)]
+    sizes = [(y, w) for y, w in enumerate(weights, 1) if w]
+    row = [1] + [0] * last
+    for n in range(last + 1):
+        yield [Fraction(c, whole ** n) for c in row]
+        row = [sum(w * row[x - y] for y, w in sizes if y <= x) for x in range(last + 1)]
+
+
+def amounts(law, weights, start, last):
+    """The exact amounts at the totals 0 to `last` for the starting chance `start`."""
+    sums = [Fraction(0)] * (last + 1)
+    for n, row in enumerate(convolutions(weights, last)):
+        coefficient = law(n)
+        sums = [so_far + coefficient * c if c else so_far for so_far, c in zip(sums, row)]
+    return [Fraction(start) * amount for amount in sums]
 
 
 def amount(law, weights, start, total):
-    """The exact amount at `total` for the starting chance `start`."""
-    return Fraction(start) * sum(law(n) * c for n, c in enumerate(convolutions(weights, total, total)))
+    return amounts(law, weights, start, total)[total]
