@@ -1,7 +1,7 @@
 -- The measure is the number of turns that are left. Nothing has to hold from turn to turn.
 use borrow.Author.Needs.{needs}
-use Rattle.reader_cases.proofs.main.Statement.{statement}
-use Rattle.reader_cases.proofs.main.Tie as tie
+use Rattle.calls.proofs.main.Statement.{statement}
+use Rattle.calls.proofs.main.Tie as tie
 
 abbrev Inv-loop : tie.InvT-loop
 Inv-loop turns₀ turns = Unit {0}

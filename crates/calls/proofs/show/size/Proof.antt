@@ -11,8 +11,8 @@ use lib.Signed.{mag, ltZ, nonNeg}
 use mir.Syntax.{w64}
 use mir.Val.{SFits, Fits}
 use mir.Facts.{toZ-ofZ}
-use Rattle.reader_cases.proofs.size.Statement.{statement}
-use Rattle.reader_cases.proofs.size.Tie as tie
+use Rattle.calls.proofs.show.size.Statement.{statement}
+use Rattle.calls.proofs.show.size.Tie as tie
 
 turned : (z : ℤ) → ltZ z (pos 0) ≡ true → negsuc 0 -ℤ z ≡ pos (mag z)
 turned (pos a) e = absurd (omega (arith, ltb-true a 0 e))

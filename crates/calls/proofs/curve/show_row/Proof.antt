@@ -2,14 +2,14 @@
 use borrow.Author.Needs.{needs}
 use Prim.Native.Nat.{_-_, _≤_}
 use lib.ListN.{length}
-use Rattle.reader_cases.proofs.show_row.Statement.{statement}
-use Rattle.reader_cases.proofs.show_row.Tie as tie
+use Rattle.calls.proofs.curve.show_row.Statement.{statement}
+use Rattle.calls.proofs.curve.show_row.Tie as tie
 
 abbrev Inv-loop : tie.InvT-loop
-Inv-loop row i₀ i-end i = i ≤ length row
+Inv-loop row total₀ total-end total = total ≤ length row
 
 abbrev μ-loop : tie.MeasureT-loop
-μ-loop row i₀ i-end i = length row - i
+μ-loop row total₀ total-end total = length row - total
 
 pub show-row-spec : {M : Type 1} → statement M
 show-row-spec =
@@ -18,6 +18,7 @@ show-row-spec =
     Inv-loop
     μ-loop
     (λ c. search needs)
+    (λ c κs. search needs)
     (λ c. search needs)
     (λ c. search needs)
     (λ c. search needs)

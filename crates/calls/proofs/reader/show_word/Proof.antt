@@ -2,8 +2,8 @@
 use borrow.Author.Needs.{needs}
 use Prim.Native.Nat.{_-_, _≤_}
 use lib.ListN.{length}
-use Rattle.reader_cases.proofs.show_word.Statement.{statement}
-use Rattle.reader_cases.proofs.show_word.Tie as tie
+use Rattle.calls.proofs.reader.show_word.Statement.{statement}
+use Rattle.calls.proofs.reader.show_word.Tie as tie
 
 abbrev Inv-loop : tie.InvT-loop
 Inv-loop word i₀ i-end i = i ≤ length word
@@ -17,6 +17,8 @@ show-word-spec =
     (tie.spec
     Inv-loop
     μ-loop
+    (λ c. search needs)
+    (λ c κs. search needs)
     (λ c. search needs)
     (λ c. search needs)
     (λ c κs. search needs)

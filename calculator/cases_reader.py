@@ -1,12 +1,5 @@
-"""The sheets that the program crates/reader_cases has the reader read, and what sheet.py says to each. Checks that the program's files
-stdin and stdout hold just this; with --write it writes them first."""
-import pathlib
-import sys
+"""Sheets for the sheet reader, good and damaged."""
 from typing import NamedTuple
-
-from sheet import read_sheet
-
-FOLDER = pathlib.Path(__file__).parent.parent / "crates/reader_cases"
 
 PAPER = [b"LAW 1 1", b"TERM 0 1", b"START 367879441 367879442", b"LAST 3", b"SEVERITY 2", b"W 1", b"W 1"]
 
@@ -170,54 +163,3 @@ CASES = [
     Case("499 places for 500 weights", 27, 8, weights(500, 500), 499),
     Case("a place less than m, and a faulty weight", 27, 5, paper({6: b"W x"}), 1),
 ]
-
-
-def record(case):
-    """A case as the program reads it."""
-    return case.places.to_bytes(2, "little") + len(case.sheet).to_bytes(2, "little") + case.sheet
-
-
-def answer(case):
-    """The line that the program is to write."""
-    read = read_sheet(case.sheet, case.places)
-    job = read.job
-    numbers = [job.order, job.divisor, *job.a, *job.b, job.low_start, job.high_start, job.last, len(job.weights)]
-    parts = [[read.number, read.line], numbers, [f"{y}={w}" for y, w in enumerate(job.weights, 1)], [f"{byte:02x}" for byte in read.word]]
-    return ";".join("".join(f" {item}" for item in part) for part in parts)[1:].encode() + b"\n"
-
-
-def stored(name):
-    path = FOLDER / name
-    return path.read_bytes() if path.exists() else b""
-
-
-def differences(case, line):
-    """Where the case's own answer or the stored line is not the calculator's."""
-    read = read_sheet(case.sheet, case.places)
-    asked, said = (case.number, case.line, case.word), (read.number, read.line, read.word)
-    if asked != said:
-        yield f"the case asks for {asked}, the calculator says {said}"
-    if line != answer(case):
-        yield f"stdout has {line!r:.200}, the calculator {answer(case)!r:.200}"
-
-
-def main():
-    records = b"".join(map(record, CASES))
-    if sys.argv[1:] not in ([], ["--write"]):
-        sys.exit(f"usage: {sys.argv[0]} [--write]")
-    if sys.argv[1:]:
-        (FOLDER / "stdin").write_bytes(records)
-        (FOLDER / "stdout").write_bytes(b"".join(map(answer, CASES)))
-    lines = stored("stdout").splitlines(keepends=True)
-    faults = [f"{case.name}: {fault}" for case, line in zip(CASES, lines) for fault in differences(case, line)]
-    if stored("stdin") != records:
-        faults.append("stdin does not hold the cases' sheets")
-    if len(lines) != len(CASES):
-        faults.append(f"stdout has {len(lines)} lines for {len(CASES)} cases")
-    print(*faults, f"sheets: {len(CASES)} set beside the calculator, {len(faults)} faults", sep="\n")
-    if faults:
-        sys.exit(1)
-
-
-if __name__ == "__main__":
-    main()

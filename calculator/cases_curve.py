@@ -1,0 +1,351 @@
+"""Calls of the curve."""
+from collections.abc import Callable
+from dataclasses import replace
+from fractions import Fraction
+from typing import NamedTuple
+
+import exact
+from outward import UNIT, Job
+
+HALF, THIRD, QUARTER = Fraction(1, 2), Fraction(1, 3), Fraction(1, 4)
+MOST = 2 ** 64 - 1
+SIGNED_LEAST, SIGNED_MOST = -2 ** 63, 2 ** 63 - 1
+
+
+class Rows(NamedTuple):
+    """What the three rows hold from total 0 to X, worked out by hand."""
+    low: list
+    high: list
+    bound: list
+
+
+class Case(NamedTuple):
+    """What is tried, the number and place that the paper asks for, and the job. Where there is one: the closed form of the law's count
+    coefficients; the rows by hand. How many places of the low, the high, the bound and the work row are lent (if nothing is said, two more
+    than needed; the program has 512 for each of three, and 4,600 for work), and up to which total exact amounts are worked out (if nothing
+    is said, to X)."""
+    name: str
+    number: int
+    place: int
+    job: Job
+    law: Callable = None
+    rows: Rows = None
+    lent: tuple = None
+    exact_to: int = None
+
+
+def four(*terms):
+    return [*terms, *[0] * (4 - len(terms))]
+
+
+def one(divisor, a, b, low, high, last, weights=(1,)):
+    """A job of order 1, with one severity if nothing else is said."""
+    return Job(1, divisor, four(a), four(b), low, high, list(weights), last)
+
+
+def no_claims(order, low, high, last):
+    """A law with no terms: row 0 is zero from total 1 on, and row j at total j has the start."""
+    return Job(order, 1, four(), four(), low, high, [1], last)
+
+
+def needed(last):
+    """The places that the four rows must have."""
+    return last + 1, last + 1, last + 1, 9 * (last + 1)
+
+
+P1 = one(1, 0, 1, 367879441, 367879442, 3, [1, 1])
+ROWS_P1 = Rows([367879441, 183939720, 229924650, 99634015], [367879442, 183939721, 229924652, 99634016], [1, 2, 2, 2])
+P2 = one(1, -1, 3, 250000000, 250000000, 4)
+ROWS_P2 = Rows([250000000, 500000000, 250000000, 0, 0], [250000000, 500000000, 250000000, 0, 0], [0, 1, 2, 1, 2])
+
+
+def paper(**changed):
+    """P1 with some of its parts changed."""
+    return replace(P1, **changed)
+
+
+def paper_terms(order, a, b):
+    """P1 to total 5 with other terms; a divisor of 1,000 keeps the curve small."""
+    return paper(order=order, divisor=1000, a=a, b=b, last=5)
+
+
+def single_term(side, i, value):
+    """The terms a and b, where all are 0 but one: A_i or B_i."""
+    terms = {"A": four(), "B": four()}
+    terms[side][i - 1] = value
+    return terms["A"], terms["B"]
+
+
+SIDES = [(side, i) for i in range(1, 5) for side in "AB"]
+
+PAPER = [
+    Case("P1", 0, 0, P1, exact.poisson(1), ROWS_P1),
+    Case("P2", 0, 0, P2, exact.binomial(2, HALF), ROWS_P2),
+    Case("P3", 0, 0, one(2, -1, 0, 1, 2, 1), exact.geometric(-HALF), Rows([1, -1], [2, 0], [1, 2])),
+    Case("P4", 0, 0, Job(2, 1, four(), four(0, 1), 400000001, 400000001, [1], 2), exact.bunches(2, exact.poisson(HALF)),
+         Rows([400000001, 0, 200000000], [400000001, 0, 200000001], [0, 1, 2])),
+    Case("P5", 9, 1, one(1, 0, 3, UNIT, UNIT, 1)),
+    Case("P5 with B 2", 0, 0, one(1, 0, 2, UNIT, UNIT, 1), exact.poisson(2), Rows([UNIT, 2 * UNIT], [UNIT, 2 * UNIT], [0, 1])),
+    Case("P6", 10, 1, one(1, 0, 1, 0, UNIT, 1)),
+    Case("P6 with X 0", 0, 0, one(1, 0, 1, 0, UNIT, 0), exact.poisson(1), Rows([0], [UNIT], [UNIT])),
+    Case("P7, w(1) 1,000", 0, 0, replace(P2, weights=[1000]), exact.binomial(2, HALF), ROWS_P2),
+    Case("P7, w(1) 1,001", 6, 0, replace(P2, weights=[1001])),
+    Case("P8", 7, 0, replace(P2, last=501)),
+    Case("also run: k 5", 1, 0, replace(P2, order=5)),
+]
+
+TEMPTING_AND_WRONG = [
+    Case("rounded towards zero, low and high at 1 would be 0", 0, 0, one(2, -1, 0, 1, 1, 1), exact.geometric(-HALF),
+         Rows([1, -1], [1, 0], [0, 1])),
+    Case("with the low under a negative factor, low at 1 would be -10", 0, 0, one(1, -1, 0, 10, 20, 1), exact.geometric(-1),
+         Rows([10, -20], [20, -10], [10, 11])),
+    Case("each product rounded, high at 2 would be 2", 0, 0, one(1, 0, 1, 1, 1, 2, [1, 1]), exact.poisson(1),
+         Rows([1, 0, 0], [1, 1, 1], [0, 1, 2])),
+    Case("lows cut to 0 would lose -500 and -125", 0, 0, one(2, -1, 0, 1000, 1000, 3), exact.geometric(-HALF),
+         Rows([1000, -500, 250, -125], [1000, -500, 250, -125], [0, 1, 2, 2])),
+    Case("factors of both signs in one sum", 0, 0, one(1, -2, 3, 7, 9, 2, [1, 1]), rows=Rows([7, 3, 2], [9, 5, 4], [2, 2, 3])),
+    Case("a factor of 0", 0, 0, one(1, -1, 1, 7, 9, 2, [1, 1]), rows=Rows([7, 0, 0], [9, 0, 0], [2, 1, 2])),
+]
+
+CHECKS = [
+    # 1
+    Case("k 0", 1, 0, paper(order=0)),
+    *[Case(f"k {k}", 0, 0, paper(order=k), exact.poisson(1), ROWS_P1) for k in (2, 3, 4)],
+    Case("k 5", 1, 0, paper(order=5)),
+    Case("the greatest k", 1, 0, paper(order=MOST)),
+
+    # 2
+    Case("D 0", 2, 0, paper(divisor=0)),
+    Case("D 1,000", 0, 0, paper(divisor=1000), exact.poisson(Fraction(1, 1000))),
+    Case("D 1,001", 2, 0, paper(divisor=1001)),
+    Case("the greatest D", 2, 0, paper(divisor=MOST)),
+
+    # 3
+    *[Case(f"{side}_{i} {value}", 0, 0, paper_terms(4, *single_term(side, i, value))) for side, i in SIDES for value in (1000, -1000)],
+    *[Case(f"{side}_{i} {value}", 3, i, paper_terms(4, *single_term(side, i, value)))
+      for side, i in SIDES for value in (1001, -1001, SIGNED_LEAST, SIGNED_MOST)],
+    *[Case(f"k {i - 1}, {side}_{i} {value}", 3, i, paper_terms(i - 1, *single_term(side, i, value)))
+      for side, i in SIDES if i > 1 for value in (1, -1, SIGNED_LEAST, SIGNED_MOST)],
+    Case("A_2 and B_1 too large", 3, 1, paper_terms(4, four(0, 1001), four(1001))),
+    Case("A_1 and B_1 too large", 3, 1, paper_terms(4, four(1001), four(-1001))),
+    Case("A_4 and B_3 too large", 3, 3, paper_terms(4, four(0, 0, 0, 1001), four(0, 0, 1001))),
+    Case("B_2 too large, A_3 past k", 3, 2, paper_terms(2, four(0, 0, 1), four(0, 1001))),
+    Case("A_2 past k, A_4 past k and too large", 3, 2, paper_terms(1, four(0, 1, 0, 1001), four())),
+    Case("all terms at the ends", 3, 1, paper_terms(4, [SIGNED_LEAST] * 4, [SIGNED_MOST] * 4)),
+
+    # 4
+    Case("s one above t", 4, 0, paper(low_start=1000, high_start=999)),
+    Case("t 0", 4, 0, paper(low_start=0, high_start=0)),
+    Case("s 1, t 0", 4, 0, paper(low_start=1, high_start=0)),
+    Case("s 0, t 1", 0, 0, paper(low_start=0, high_start=1), exact.poisson(1)),
+    Case("s 1, t 1", 0, 0, paper(low_start=1, high_start=1), exact.poisson(1)),
+    Case("s U, t U", 0, 0, paper(low_start=UNIT, high_start=UNIT), exact.poisson(1)),
+    Case("s U, t U+1", 4, 0, paper(low_start=UNIT, high_start=UNIT + 1)),
+    Case("s U+1, t U+1", 4, 0, paper(low_start=UNIT + 1, high_start=UNIT + 1)),
+    Case("s U+1, t U", 4, 0, paper(low_start=UNIT + 1, high_start=UNIT)),
+    Case("the greatest t", 4, 0, paper(high_start=MOST)),
+    Case("the greatest s and t", 4, 0, paper(low_start=MOST, high_start=MOST)),
+    Case("the greatest s", 4, 0, paper(low_start=MOST)),
+
+    # 5
+    Case("m 0", 5, 0, paper(weights=[])),
+    Case("m 1", 0, 0, paper(weights=[1]), exact.poisson(1)),
+    Case("m 500", 0, 0, paper(weights=[1] * 500), exact.poisson(1)),
+    Case("m 501", 5, 0, paper(weights=[1] * 501)),
+    Case("m 512", 5, 0, paper(weights=[1] * 512)),
+    Case("m 501, the last weight 0", 5, 0, paper(weights=[1] * 500 + [0])),
+
+    # 6
+    Case("W 0", 6, 0, paper(weights=[0])),
+    Case("W 0 with 500 weights", 6, 0, paper(weights=[0] * 500)),
+    Case("W 1, the last of 500 weights", 0, 0, paper(weights=[0] * 499 + [1]), exact.poisson(1)),
+    Case("W 1,000", 0, 0, paper(weights=[999, 1]), exact.poisson(1)),
+    Case("W 1,001", 6, 0, paper(weights=[1000, 1])),
+    Case("W 1,000 with 500 weights", 0, 0, paper(weights=[2] * 500), exact.poisson(1)),
+    Case("W 1,001 with 500 weights", 6, 0, paper(weights=[2] * 499 + [3])),
+    Case("the greatest weight", 6, 0, paper(weights=[MOST])),
+    Case("weights whose sum is 0 modulo 2^64", 6, 0, paper(weights=[MOST, 1])),
+    Case("weights whose sum is 1 modulo 2^64", 6, 0, paper(weights=[MOST, 2])),
+    Case("weights whose sum is 5 modulo 2^64", 6, 0, paper(weights=[2 ** 63, 5, 2 ** 63])),
+    Case("500 weights of the greatest", 6, 0, paper(weights=[MOST] * 500)),
+    Case("500 weights whose sum is 4 modulo 2^64", 6, 0, paper(weights=[2 ** 62] * 4 + [0] * 495 + [4])),
+
+    # 7
+    Case("X 0", 0, 0, paper(last=0), exact.poisson(1)),
+    Case("X 500", 0, 0, paper(weights=[1], last=500), exact.poisson(1)),
+    Case("X 501", 7, 0, paper(last=501)),
+    Case("the greatest X", 7, 0, paper(last=MOST)),
+    Case("X 2^32", 7, 0, paper(last=2 ** 32)),
+
+    # 8
+    Case("no place too many", 0, 0, P1, exact.poisson(1), ROWS_P1, needed(3)),
+    Case("a place less for lows", 8, 0, P1, lent=(3, 4, 4, 36)),
+    Case("a place less for highs", 8, 0, P1, lent=(4, 3, 4, 36)),
+    Case("a place less for bounds", 8, 0, P1, lent=(4, 4, 3, 36)),
+    Case("a place less for work", 8, 0, P1, lent=(4, 4, 4, 35)),
+    Case("no places", 8, 0, P1, lent=(0, 0, 0, 0)),
+    Case("rows of several lengths", 0, 0, P1, exact.poisson(1), ROWS_P1, (512, 4, 77, 4600)),
+    Case("X 0, no place too many", 0, 0, paper(last=0), exact.poisson(1), lent=needed(0)),
+    Case("X 0, no place for highs", 8, 0, paper(last=0), lent=(1, 0, 1, 9)),
+    Case("X 0, 8 places for work", 8, 0, paper(last=0), lent=(1, 1, 1, 8)),
+    Case("X 500, no place too many", 0, 0, one(1, 0, 1, 367879441, 367879442, 500), exact.poisson(1), lent=needed(500)),
+    Case("X 500, a place less for bounds", 8, 0, paper(last=500), lent=(501, 501, 500, 4509)),
+    Case("X 500, a place less for work", 8, 0, paper(last=500), lent=(501, 501, 501, 4508)),
+]
+
+# a fault for each of the refusals 1 to 7; the weights for 5 are too many and too heavy
+FAULTS = [{"order": 5}, {"divisor": 0}, {"a": four(1001)}, {"low_start": 2, "high_start": 1}, {"weights": [2] * 501}, {"weights": [1001]},
+          {"last": 501}]
+
+
+def faulty_from(number):
+    """A job with a fault for each refusal from `number` to 7."""
+    job = P1
+    for fault in reversed(FAULTS[number - 1:]):
+        job = replace(job, **fault)
+    return job
+
+
+ORDER = [
+    *[Case(f"faults of {number} to 8 at once", number, 1 if number == 3 else 0, faulty_from(number), lent=(0, 0, 0, 0))
+      for number in range(1, 9)],
+    Case("8 and 9", 8, 0, one(1, 0, 3, UNIT, UNIT, 1), lent=(2, 2, 2, 17)),
+    Case("8 and 10", 8, 0, one(1, 0, 1, 0, UNIT, 1), lent=(1, 2, 2, 18)),
+]
+
+# Row j >= 1 has averages of row j-1, rounded outwards to whole numbers, so that its lows and highs never are the first outside -2U to 2U;
+# its bounds can be the first above U.
+RANGE_AND_BOUND = [
+    # 9
+    Case("2U", 0, 0, one(2, 0, 5, 800000000, 800000000, 1), exact.poisson(Fraction(5, 2))),
+    Case("2U+1", 9, 1, one(1, 0, 3, 666666667, 666666667, 1)),
+    Case("-2U", 0, 0, one(2, -5, 0, 800000000, 800000000, 1), exact.geometric(Fraction(-5, 2))),
+    Case("-2U-1", 9, 1, one(1, -3, 0, 666666667, 666666667, 1)),
+    Case("the high alone above 2U", 9, 1, one(1, 0, 3, 666666666, 666666667, 1)),
+    Case("the low alone below -2U", 9, 1, one(1, -3, 0, 666666666, 666666667, 1)),
+    Case("2U by rounding up", 0, 0, one(3, 0, 7, 857142857, 857142857, 1), exact.poisson(Fraction(7, 3))),
+    Case("2U+1 by rounding up", 9, 1, one(4, 0, 9, 888888889, 888888889, 1)),
+    Case("-2U-1 by rounding down", 9, 1, one(4, -9, 0, 888888889, 888888889, 1)),
+    Case("9 at 4", 9, 4, one(1, 1, 1, 500000000, 500000000, 9)),
+    Case("9 at 4, the last total", 9, 4, one(1, 1, 1, 500000000, 500000000, 4), lent=needed(4)),
+    Case("and no 9 before it", 0, 0, one(1, 1, 1, 500000000, 500000000, 3), exact.negative_binomial(2, 1)),
+    Case("9 at 500, from the largest product", 9, 500, one(1, 1000, 1000, UNIT, UNIT, 500, [0] * 499 + [1000])),
+    Case("2U at 500, from the largest product", 0, 0, one(1000, 1000, 1000, UNIT, UNIT, 500, [0] * 499 + [1000]),
+         exact.negative_binomial(2, 1)),
+    Case("the largest terms", 9, 1, Job(4, 1, [1000] * 4, [1000] * 4, UNIT, UNIT, [1000], 500)),
+    Case("the lowest terms", 9, 1, Job(4, 1, [-1000] * 4, [-1000] * 4, UNIT, UNIT, [1000], 500)),
+
+    # 10
+    Case("a bound of U", 0, 0, one(1, 0, 1, 0, UNIT - 1, 1), exact.poisson(1)),
+    Case("a bound of U+1", 10, 1, one(1, 0, 2, 0, 500000000, 1)),
+    Case("10 at 30, as bounds double; lows and highs reach 9 at 31", 10, 30, one(1, 2, 0, 1, 1, 31)),
+    Case("10 at 30, the last total", 10, 30, one(1, 2, 0, 1, 1, 30), lent=needed(30)),
+    Case("and no 10 before it", 0, 0, one(1, 2, 0, 1, 1, 29), exact.geometric(2)),
+    Case("10 at 30, lows and highs of both signs", 10, 30, one(1, -2, 0, 1, 1, 31)),
+
+    # both
+    Case("9 and 10 at 1", 9, 1, one(1, 0, 3, 0, UNIT, 2)),
+    Case("10 at 1, 9 at 2", 10, 1, one(1, 1, 1, 0, UNIT, 2)),
+
+    # further rows
+    Case("10 in row 0 alone, of four", 10, 1, Job(4, 1, four(), four(2), 0, 500000000, [1], 2)),
+    Case("10 in row 1 alone, of four", 10, 1, no_claims(4, 0, UNIT, 3)),
+    Case("10 in row 1", 10, 1, no_claims(2, 0, UNIT, 3)),
+    Case("and not without row 1", 0, 0, no_claims(1, 0, UNIT, 3), exact.finite()),
+    Case("a bound of U in row 1", 0, 0, no_claims(2, 0, UNIT - 1, 3), exact.finite()),
+    Case("10 in row 2", 10, 2, no_claims(3, 0, UNIT - 1, 3)),
+    Case("a bound of U in row 2", 0, 0, no_claims(3, 1, UNIT - 1, 3), exact.finite()),
+    Case("10 in row 3", 10, 3, no_claims(4, 1, UNIT - 1, 3)),
+    Case("10 in row 3, past the last total", 0, 0, no_claims(4, 1, UNIT - 1, 2), exact.finite()),
+    Case("a bound of U in row 3", 0, 0, no_claims(4, 1, UNIT - 2, 3), exact.finite()),
+    Case("9 in row 0 and 10 in row 1", 9, 1, Job(2, 1, four(), four(3), 0, UNIT, [1], 2)),
+]
+
+
+class Law(NamedTuple):
+    """A divisor and terms by the formulas of the sources, the chance of no claims in units, and the closed form."""
+    name: str
+    divisor: int
+    a: list
+    b: list
+    low: int
+    high: int
+    closed: Callable
+
+
+LAWS = [
+    # source document 000: Poisson, with a = 0 and b the mean
+    Law("Poisson 3/2", 2, [0], [3], 223130160, 223130161, exact.poisson(Fraction(3, 2))),
+    Law("Poisson 7/1000", 1000, [0], [7], 993024442, 993024443, exact.poisson(Fraction(7, 1000))),
+    Law("Poisson 10", 1, [0], [10], 45399, 45400, exact.poisson(10)),
+    # binomial, with a = -p/q and b = (N+1)p/q, since the first right-hand coefficient is the product Np
+    Law("binomial 4 1/3", 2, [-1], [5], 197530864, 197530865, exact.binomial(4, THIRD)),
+    Law("binomial 10 1/5", 4, [-1], [11], 107374182, 107374183, exact.binomial(10, Fraction(1, 5))),
+    Law("binomial 12 1/1000", 999, [-1], [13], 988065780, 988065781, exact.binomial(12, Fraction(1, 1000))),
+    Law("binomial 3 3/4", 1, [-3], [12], 15625000, 15625000, exact.binomial(3, Fraction(3, 4))),
+    # negative binomial, with a = p and b = (alpha-1)p
+    Law("negative binomial 2 1/3", 3, [1], [1], 444444444, 444444445, exact.negative_binomial(2, THIRD)),
+    Law("negative binomial 1 1/2", 2, [1], [0], 500000000, 500000000, exact.negative_binomial(1, HALF)),
+    Law("negative binomial 5/2 1/2", 4, [2], [3], 176776695, 176776696, exact.negative_binomial(Fraction(5, 2), HALF)),
+    Law("negative binomial 1/2 1/2", 4, [2], [-1], 707106781, 707106782, exact.negative_binomial(HALF, HALF)),
+
+    # source document 002, Corollary 4: two laws together, with a 1/2 and -1, b 1/2 and 3; with a 0 and 1/3, b 1 and 0
+    Law("negative binomial 2 1/2 with binomial 2 1/2", 2, [-1, 1], [7, -2], 62500000, 62500000,
+        exact.together(exact.negative_binomial(2, HALF), exact.binomial(2, HALF))),
+    Law("Poisson 1 with negative binomial 1 1/3", 3, [1, 0], [3, -1], 245252960, 245252961,
+        exact.together(exact.poisson(1), exact.negative_binomial(1, THIRD))),
+    # Example 1: a Poisson law as one of order 2, with q = 1/2
+    Law("Poisson 1 by order 2", 2, [-1, 0], [3, 1], 367879441, 367879442, exact.poisson(1)),
+    # Equation (4): claims two at a time, so that b_2 is twice the mean
+    Law("pairs by Poisson 1/2", 1, [0, 0], [0, 1], 606530659, 606530660, exact.bunches(2, exact.poisson(HALF))),
+    # Theorem 3: at most k claims, with a_i = -P_i and b_i = 2iP_i
+    Law("at most 2 claims", 3, [-2, -1], [4, 4], 500000000, 500000000, exact.finite(Fraction(2, 3), THIRD)),
+    Law("at most 4 claims", 16, [-8, -4, -2, -1], [16, 16, 12, 8], 516129032, 516129033,
+        exact.finite(HALF, QUARTER, Fraction(1, 8), Fraction(1, 16))),
+    # Corollary 2: at most 3 claims, twice, with a_i = -P_i and b_i = 3iP_i for the P_i of one law
+    Law("at most 3 claims, twice", 4, [-3, -2, -1], [9, 12, 9], 160000000, 160000000,
+        exact.together(exact.finite(Fraction(3, 4), HALF, QUARTER), exact.finite(Fraction(3, 4), HALF, QUARTER))),
+    # Theorem 8: three laws together, with a -1, 1/2 and 0, b 3, 0 and 1; four, with a 1/2, 1/3, -1/2 and -1/3, b 0, 1/3, 1 and 1
+    Law("binomial 2 1/2 with negative binomial 1 1/2 and Poisson 1", 2, [-1, 1, 0], [8, -2, -1], 45984930, 45984931,
+        exact.together(exact.binomial(2, HALF), exact.negative_binomial(1, HALF), exact.poisson(1))),
+    Law("negative binomial 1 1/2 and 2 1/3 with binomial 1 1/3 and 2 1/4", 36, [0, 13, 0, -1], [84, -26, -16, 4], 83333333, 83333334,
+        exact.together(exact.negative_binomial(1, HALF), exact.negative_binomial(2, THIRD), exact.binomial(1, THIRD),
+                       exact.binomial(2, QUARTER))),
+    # Equation (4): Poisson laws of claims one, two, three and four at a time, with means 1/2, 1/4, 1/6 and 1/8, so that each b_i is 1/2
+    Law("one to four at a time", 2, [0, 0, 0, 0], [1, 1, 1, 1], 352866081, 352866082,
+        exact.together(exact.poisson(HALF), exact.bunches(2, exact.poisson(QUARTER)), exact.bunches(3, exact.poisson(Fraction(1, 6))),
+                       exact.bunches(4, exact.poisson(Fraction(1, 8))))),
+    # Equation (4): claims three at a time, the bunches geometric
+    Law("three at a time", 2, [0, 0, 1], [0, 0, 0], 500000000, 500000000, exact.bunches(3, exact.geometric(HALF))),
+]
+
+TABLES = {
+    "one size": [1],
+    "two sizes alike": [1, 1],
+    "no size 2": [2, 0, 1],
+    "no size 1 or 3": [0, 3, 0, 1],
+    "a dozen sizes": [5, 9, 14, 3, 0, 7, 21, 1, 2, 8, 13, 4],
+}
+
+
+def law_case(law, table, weights, last=12, exact_to=None):
+    job = Job(len(law.a), law.divisor, four(*law.a), four(*law.b), law.low, law.high, weights, last)
+    return Case(f"{law.name}, {table}", 0, 0, job, law.closed, exact_to=exact_to)
+
+
+LAWS_ON_TABLES = [law_case(law, table, weights) for law in LAWS for table, weights in TABLES.items()]
+
+# a wide gap between the starts
+WIDE = [Case(f"{case.name}, from half the start on", 0, 0, replace(case.job, low_start=case.job.low_start // 2), case.law)
+        for case in LAWS_ON_TABLES if case.job.weights == TABLES["no size 2"]]
+
+# up to X 500; with 500 sizes the exact amounts of the first totals only, as direct convolutions take their time
+BY_NAME = {law.name: law for law in LAWS}
+LONG = [
+    law_case(BY_NAME["binomial 10 1/5"], "one size, X 500", [1], 500),
+    law_case(BY_NAME["negative binomial 1 1/2"], "the 500th size alone, X 500", [0] * 499 + [1], 500),
+    law_case(BY_NAME["Poisson 10"], "500 sizes alike, X 500", [1] * 500, 500, exact_to=40),
+    law_case(BY_NAME["one to four at a time"], "500 sizes, X 500", [1 + y % 3 for y in range(500)], 500, exact_to=40),
+]
+
+CASES = [*PAPER, *TEMPTING_AND_WRONG, *CHECKS, *ORDER, *RANGE_AND_BOUND, *LAWS_ON_TABLES, *WIDE, *LONG]

@@ -1,0 +1,123 @@
+"""The calls that the program crates/calls makes, and what the calculator says to each. Checks that the calculator gives the answer that the
+case asks for, that the exact amounts of an accepted curve lie within its lows and highs, and that the program's files stdin and stdout
+hold just these calls and the calculator's answers; with --write it writes the files first."""
+import pathlib
+import sys
+from typing import NamedTuple
+
+import cases_curve
+import cases_level
+import cases_reader
+from enclosed import outside
+from level import level_query
+from outward import Lent, curve
+from sheet import read_sheet
+
+FOLDER = pathlib.Path(__file__).parent.parent / "crates/calls"
+
+# what a place of the curve's rows holds before the call
+MARK = -2 ** 63
+
+
+class Call(NamedTuple):
+    """A case as the program has it, and what is wrong with it."""
+    name: str
+    record: bytes
+    line: bytes
+    faults: list
+
+
+def words(*numbers):
+    """Eight bytes for each number, the least first."""
+    return b"".join(number.to_bytes(8, "little", signed=number < 0) for number in numbers)
+
+
+def counted(row):
+    return words(len(row), *row)
+
+
+def line(*parts):
+    """Parts behind each other with a semicolon between them, their items with spaces."""
+    return ";".join("".join(f" {item}" for item in part) for part in parts)[1:].encode() + b"\n"
+
+
+def differences(asked, said):
+    return [] if asked == said else [f"the case asks for {asked}, the calculator says {said}"]
+
+
+def reader_call(case):
+    read = read_sheet(case.sheet, case.places)
+    job = read.job
+    numbers = [job.order, job.divisor, *job.a, *job.b, job.low_start, job.high_start, job.last, len(job.weights)]
+    weights = [f"{y}={w}" for y, w in enumerate(job.weights, 1)]
+    word = [f"{byte:02x}" for byte in read.word]
+    return Call(
+        case.name,
+        words(1, case.places, len(case.sheet)) + case.sheet,
+        line([read.number, read.line], numbers, weights, word),
+        differences((case.number, case.line, case.word), (read.number, read.line, read.word)),
+    )
+
+
+def curve_faults(case, said, lent):
+    yield from differences((case.number, case.place), said)
+    if case.rows:
+        yield from differences(list(case.rows), [row[:case.job.last + 1] for row in (lent.low, lent.high, lent.bound)])
+    if said == (0, 0):
+        yield from outside(case.job, lent, case.law, case.exact_to)
+
+
+def curve_call(case):
+    job = case.job
+    places = case.lent or [n + 2 for n in cases_curve.needed(min(job.last, 500))]
+    lent = Lent(*([MARK] * n for n in places))
+    said = curve(job, lent)
+    written = [[f"{x}={held}" for x, held in enumerate(row) if held != MARK] for row in (lent.low, lent.high, lent.bound, lent.work)]
+    return Call(
+        case.name,
+        words(2, job.order, job.divisor, *job.a, *job.b, job.low_start, job.high_start, job.last) + counted(job.weights) + words(*places),
+        line(said, *written),
+        list(curve_faults(case, said, lent)),
+    )
+
+
+def level_call(case):
+    said = level_query(case.low, case.high, case.level)
+    return Call(
+        case.name,
+        words(3) + counted(case.low) + counted(case.high) + words(case.level),
+        line(said),
+        differences((case.number, case.place, case.sure, case.possible), said),
+    )
+
+
+def stored(name):
+    path = FOLDER / name
+    return path.read_bytes() if path.exists() else b""
+
+
+def main():
+    if sys.argv[1:] not in ([], ["--write"]):
+        sys.exit(f"usage: {sys.argv[0]} [--write]")
+    calls = [*map(reader_call, cases_reader.CASES), *map(curve_call, cases_curve.CASES), *map(level_call, cases_level.CASES)]
+    records = b"".join(call.record for call in calls)
+    if sys.argv[1:]:
+        (FOLDER / "stdin").write_bytes(records)
+        (FOLDER / "stdout").write_bytes(b"".join(call.line for call in calls))
+    faults = [f"{call.name}: {fault}" for call in calls for fault in call.faults]
+    lines = stored("stdout").splitlines(keepends=True)
+    for call, held in zip(calls, lines):
+        if held != call.line:
+            faults.append(f"{call.name}: stdout has {held!r:.200}, the calculator {call.line!r:.200}")
+    if stored("stdin") != records:
+        faults.append("stdin does not hold the cases' calls")
+    if len(lines) != len(calls):
+        faults.append(f"stdout has {len(lines)} lines for {len(calls)} calls")
+    kinds = f"{len(cases_reader.CASES)} sheets, {len(cases_curve.CASES)} curves, {len(cases_level.CASES)} level queries"
+    print(*faults, f"calls: {kinds} set beside the calculator, {len(faults)} faults", sep="\n")
+    if faults:
+        sys.exit(1)
+
+
+if __name__ == "__main__":
+    main()

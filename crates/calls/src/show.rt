@@ -1,0 +1,43 @@
+// Writing to standard output.
+
+pub fn text(bytes: &[u8]) {
+    io::write_all(1, bytes);
+}
+
+pub fn number(n: u64) {
+    io::print_decimal(1, n);
+}
+
+pub fn next(n: u64) {
+    text(b" ");
+    number(n);
+}
+
+// A negative number's size is taken one short, which fits, and then made whole.
+fn size(z: i64) -> u64 {
+    if z < 0 { (-1 - z) as u64 + 1 } else { z as u64 }
+}
+
+pub fn signed(z: i64) {
+    if z < 0 {
+        text(b"-");
+    }
+    number(size(z));
+}
+
+pub fn next_signed(z: i64) {
+    text(b" ");
+    signed(z);
+}
+
+// The number of an answer, 0 for an acceptance, and its place or line.
+pub fn answer(reason: u64, place: usize) {
+    number(reason);
+    next(place as u64);
+}
+
+// A place of a row, in front of what it holds.
+pub fn place(at: usize) {
+    next(at as u64);
+    text(b"=");
+}
