@@ -1,6 +1,6 @@
-"""Sets the calls in crates/cases/specs/Cases.antt beside outward.py, sheet.py and level.py, and the lows and highs of curves beside the
-exact amounts of exact.py. Every row must be known here, and agree. What the table's words stand for (the lent rows, the paper's sheet with
-two lines left open) is written here once more."""
+"""Sets the calls in crates/cases/specs/Cases.antt beside outward.py, sheet.py, level.py and program.py, and the lows and highs of curves
+beside the exact amounts of exact.py. Every row must be known here, and agree. What the table's words stand for (the lent rows, the paper's
+sheet with two lines left open) is written here once more."""
 import pathlib
 import re
 import sys
@@ -10,6 +10,7 @@ from typing import NamedTuple
 from enclosed import outside
 from level import Answer as Totals, level_query
 from outward import Job, Lent, curve
+from program import output
 from sheet import NO_JOB, read_sheet
 
 MARK = 7
@@ -30,6 +31,12 @@ class Sheet(NamedTuple):
     job: Job
     after: list
     word: bytes
+
+
+class Program(NamedTuple):
+    """A row on the program."""
+    sheet: bytes
+    text: str
 
 
 class Level(NamedTuple):
@@ -95,6 +102,8 @@ WORDS = {
     "refusal": refusal,
     "replicate": lambda count, value: [value] * count,
     "level": Level,
+    "ascii": str.encode,
+    "program": Program,
     "totals": lambda sure, possible: Totals(0, 0, sure, possible),
     "noTotals": lambda number, place: Totals(number, place, 0, 0),
 }
@@ -165,11 +174,19 @@ def level_differences(row):
         yield f"the table has {row.answer}, the calculator {answer}"
 
 
+def program_differences(row):
+    text = output(row.sheet)
+    if text != row.text.encode():
+        yield f"the table has {row.text!r}, the calculator {text}"
+
+
 def differences(row):
     if isinstance(row, Sheet):
         return list(sheet_differences(row))
     if isinstance(row, Level):
         return list(level_differences(row))
+    if isinstance(row, Program):
+        return list(program_differences(row))
     faults = list(curve_differences(row))
     return faults or (list(outside(row.job, row.after)) if row.answer == (0, 0) else [])
 
@@ -185,7 +202,7 @@ def main():
     accepted = sum(isinstance(row, Curve) and row.answer == (0, 0) for row in rows)
     print(f"the paper's cases: {len(rows)} rows set beside the calculator, {accepted} of them with exact amounts, {wrong} differ")
     kinds = Counter(map(type, rows))
-    if wrong or kinds[Curve] < 13 or kinds[Sheet] < 5 or kinds[Level] < 13:
+    if wrong or kinds[Curve] < 13 or kinds[Sheet] < 5 or kinds[Level] < 13 or kinds[Program] < 4:
         sys.exit(1)
 
 

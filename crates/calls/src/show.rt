@@ -1,5 +1,7 @@
 // Writing to standard output.
 
+use text::output::size;
+
 pub fn text(bytes: &[u8]) {
     io::write_all(1, bytes);
 }
@@ -11,11 +13,6 @@ pub fn number(n: u64) {
 pub fn next(n: u64) {
     text(b" ");
     number(n);
-}
-
-// A negative number's size is taken one short, which fits, and then made whole.
-fn size(z: i64) -> u64 {
-    if z < 0 { (-1 - z) as u64 + 1 } else { z as u64 }
 }
 
 pub fn signed(z: i64) {

@@ -1,5 +1,5 @@
 -- By cases on what the reader reads, and on whether the curve accepts it.
-use mathlib.Core.Path.{_≡_, refl, ap, subst, _∙_}
+use mathlib.Core.Path.{_≡_, refl, subst}
 use mathlib.Core.Bool.{false}
 use mathlib.Core.Logic.{_⊎_, inl, inr}
 use mathlib.Core.List.{List}
@@ -14,7 +14,7 @@ use Rattle.sheet.specs.Sheet.{Sheet}
 use Rattle.sheet.specs.Reading.{Reading, reads, refuses, reading}
 use Rattle.sheet.proofs.Taken.{takes-only-texts}
 use Rattle.compound.specs.Call.{curveAnswer}
-use Rattle.report.specs.Report.{mostWeights, programRows, curveText, readingText, reportText, Table, Refusal, TableOrRefusal}
+use Rattle.report.specs.Report.{mostWeights, programRows, curveText, reportText, Table, Refusal, TableOrRefusal}
 use Rattle.report.proofs.Room.{BySheet, reading-by-sheet, answers}
 
 abbrev Decided : Answer → Type 0
