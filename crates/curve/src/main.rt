@@ -1,7 +1,7 @@
 // Reads a sheet from standard input, and writes the table of its curve, or its refusal, to standard output.
 
 fn main() {
-    let mut sheet = [0u8; report::INPUT_BYTES];
+    let mut sheet = report::input_buffer();
     let count = io::read_full(0, &mut sheet);
     let mut out = [0u8; report::ROOM];
     let written = report::report(&sheet[..count], &mut out);

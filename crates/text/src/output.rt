@@ -1,7 +1,7 @@
 // Text put into a lent row, one piece after the other. Each function answers the place behind its piece. A byte that has no place in the
 // row is dropped, and the place answered is then one past the row's end.
 
-ghost use mathlib.Core.List.{[], _∷_, _++_};
+ghost use mathlib.Core.List.{[], _∷_};
 ghost use mathlib.Core.Path.{_≡_};
 ghost use lib.IntN.{natAbs};
 ghost use Rattle.text.specs.Bytes.{space};
