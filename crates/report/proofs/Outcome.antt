@@ -13,8 +13,10 @@ use Rattle.model.specs.Answer.{Answer, accepted, refused, isAccepted}
 use Rattle.sheet.specs.Sheet.{Sheet}
 use Rattle.sheet.specs.Reading.{Reading, reads, refuses, reading}
 use Rattle.sheet.proofs.Taken.{takes-only-texts}
+use Rattle.sheet.proofs.Texts.{takes-all-texts}
 use Rattle.compound.specs.Call.{curveAnswer}
-use Rattle.report.specs.Report.{mostWeights, programRows, curveText, reportText, Table, Refusal, TableOrRefusal}
+use Rattle.report.specs.Report.{mostWeights, programRows, curveText, reportText}
+use Rattle.report.specs.Report.{Table, Refusal, TableOrRefusal, AcceptedHasTable}
 use Rattle.report.proofs.Room.{BySheet, reading-by-sheet, answers}
 
 abbrev Decided : Answer → Type 0
@@ -30,7 +32,8 @@ table-or-refusal s = by (reading mostWeights s) refl
     by-curve : (sheet : Sheet) → reading mostWeights s ≡ reads sheet → Decided (curveAnswer (sheet .job) (sheet .weights) programRows)
         → Table s ⊎ Refusal s
     by-curve sheet e (inl a) =
-        inl (record { sheet = sheet; bytes = takes-only-texts mostWeights s sheet e .2; answer = a; text = rw (e, a) })
+        let taken = takes-only-texts mostWeights s sheet e in
+        inl (record { sheet = sheet; writable = taken .0; bytes = taken .2; answer = a; text = rw (e, a) })
     by-curve sheet e (inr a) =
         inr (record { answer = curveAnswer (sheet .job) (sheet .weights) programRows; refused = a; text = rw (e, a) })
 
@@ -39,3 +42,7 @@ table-or-refusal s = by (reading mostWeights s) refl
     by (refuses number n) e =
         let own = subst BySheet e (reading-by-sheet mostWeights (le-refl mostWeights) s) in
         inr (record { answer = refused number n; refused = ne-eqb number 0 (λ z. omega arith); text = rw e })
+
+pub accepted-has-table : AcceptedHasTable
+unfolding reportText curveText
+accepted-has-table sheet writable e = rw (takes-all-texts mostWeights sheet writable (writable .count-most), e)

@@ -14,6 +14,7 @@ use Rattle.text.specs.Numbers.{decimal}
 use Rattle.text.specs.Output.{lineText}
 use Rattle.sheet.specs.Sheet.{Sheet, sheetText}
 use Rattle.sheet.specs.Reading.{Reading, reads, refuses, reading}
+use Rattle.sheet.specs.Accepts.{Writable}
 use Rattle.compound.specs.Call.{Lent, lentRows, workPlaces, curveAnswer, curveLent}
 
 -- ---- lines
@@ -69,6 +70,7 @@ reportText s = readingText (reading mostWeights s)
 -- a table is written where the bytes are, one by one, the text of a sheet whose job is accepted; it shows what the call leaves in the rows
 pub record Table (s : List ℕ) : Type 0 where
   pub sheet : Sheet
+  pub writable : Writable sheet
   pub bytes : s ≡ sheetText sheet
   pub answer : curveAnswer (sheet .job) (sheet .weights) programRows ≡ accepted
   pub text : reportText s ≡ rowsText (sheet .job) (curveLent (sheet .job) (sheet .weights) programRows)
@@ -80,3 +82,8 @@ pub record Refusal (s : List ℕ) : Type 0 where
 
 abbrev pub TableOrRefusal : Type 0
 TableOrRefusal = (s : List ℕ) → Table s ⊎ Refusal s
+
+-- and every such text gives its table
+abbrev pub AcceptedHasTable : Type 0
+AcceptedHasTable = (sheet : Sheet) → Writable sheet → curveAnswer (sheet .job) (sheet .weights) programRows ≡ accepted
+    → reportText (sheetText sheet) ≡ rowsText (sheet .job) (curveLent (sheet .job) (sheet .weights) programRows)
