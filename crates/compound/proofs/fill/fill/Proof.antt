@@ -14,8 +14,8 @@ use Rattle.compound.specs.declared.fill.Faults.{Faults}
 use Rattle.compound.specs.Curve.{curveRows}
 use Rattle.compound.specs.Call.{Lent, lentRows, faultAt, faults}
 use Rattle.compound.specs.Room.{faultsBelow, RowsKept, Advanced, Filled}
-use Rattle.compound.proofs.Filled.{Reached, reached-first, reached-ready, faults-curve, step-kept, reached-next, filled-fault, filled-end}
-use Rattle.compound.proofs.Filled.{found-range, found-bound, found-none}
+use Rattle.compound.proofs.Filled.{Reached, reached-first, reached-ready, faults-curve, step-kept, reached-next}
+use Rattle.compound.proofs.Filled.{filled-fault, filled-end, found-range, found-bound, found-none}
 use Rattle.compound.proofs.fill.fill.Statement.{statement}
 use Rattle.compound.proofs.fill.fill.Tie as tie
 
@@ -93,7 +93,9 @@ module _ (c : tie.After-work Inv-loop μ-loop) where
       ∙ faults-curve job weights (start loop .pre .0) (lent₀ loop) (start loop .pre .1) x (lent loop) here
 
   kept : RowsKept (x + 1) (job .last + 1) filled (lent₀ loop)
-  kept = step-kept job weights (start loop .pre .0) (lent₀ loop) (start loop .pre .1) x (lent loop) here filled step (x + 1) (le-refl (x + 1))
+  kept =
+      step-kept job weights (start loop .pre .0) (lent₀ loop) (start loop .pre .1) x (lent loop) here filled step (x + 1)
+      (le-refl (x + 1))
 
   -- an answer at this total
   fault : (number : ℕ) → eqb number 0 ≡ false → firstOf (faults job weights) ≡ refused number x
