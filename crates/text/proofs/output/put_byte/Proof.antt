@@ -4,6 +4,10 @@ use Rattle.text.proofs.Put.{put-here, put-past}
 use Rattle.text.proofs.output.put_byte.Statement.{statement}
 use Rattle.text.proofs.output.put_byte.Tie as tie
 
+-- the byte is written within the row
+slice-write-out : tie.Need-slice-write-out
+slice-write-out c = search needs
+
 returns : tie.Need-returns
 returns c = put-here _ _ _ (c .if1 .taken)
 
@@ -12,4 +16,4 @@ returns-2 c = put-past _ _ _ (c .if1 .left)
 
 pub put-byte-spec : {M : Type 1} → statement M
 put-byte-spec =
-    tie.close (tie.spec (λ c. search needs) (λ c. search needs) (λ c. search needs) (λ c. search needs) returns returns-2)
+    tie.close (tie.spec slice-write-out (λ c. search needs) (λ c. search needs) (λ c. search needs) returns returns-2)
