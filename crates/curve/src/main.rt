@@ -1,9 +1,30 @@
 // Reads a sheet from standard input, and writes the table of its curve, or its refusal, to standard output.
 
+ghost use mathlib.Core.Path.{_≡_};
+ghost use lib.ListN.{length};
+ghost use Rattle.io.specs.Counts.{Counts};
+ghost use Rattle.report.specs.Report.{reportText};
+ghost use Rattle.report.specs.Room.{inputBytes};
+
+// The buffer has one byte more than a sheet may have, so that a longer input is told from it.
+fn read_input(sheet: &mut [u8]) -> usize
+    requires { ⌜ length (now sheet) ≡ inputBytes ⌝ }
+    ensures { λ r. ⌜ Counts r (now (sheet .exit)) ⌝ }
+{
+    io::read_full(0, sheet)
+}
+
+// What is written is the text of what was read.
+fn write_text(sheet: &[u8], text: &[u8])
+    requires { ⌜ now text ≡ reportText (now sheet) ⌝ }
+{
+    io::write_all(1, text);
+}
+
 fn main() {
-    let mut sheet = report::input_buffer();
-    let count = io::read_full(0, &mut sheet);
+    let mut sheet = [0u8; 16_385];
+    let count = read_input(&mut sheet);
     let mut out = [0u8; report::ROOM];
     let written = report::report(&sheet[..count], &mut out);
-    io::write_all(1, &out[..written]);
+    write_text(&sheet[..count], &out[..written]);
 }

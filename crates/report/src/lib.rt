@@ -10,7 +10,6 @@ ghost use lib.ListN.{length};
 ghost use Rattle.algebra.specs.Slice.{written};
 ghost use Rattle.text.specs.Output.{output, Puts};
 ghost use Rattle.report.specs.Report.{curveText, reportText};
-ghost use Rattle.report.specs.Room.{inputBytes};
 
 // The most weights that a sheet may have.
 const MOST_WEIGHTS: usize = 500;
@@ -20,18 +19,8 @@ const MOST_TOTALS: usize = 501;
 
 const WORK_PLACES: usize = 9 * MOST_TOTALS;
 
-// One byte more than a sheet may have, so that a longer one is told from it.
-const INPUT_BYTES: usize = 16_385;
-
 // Room for every text: a line has less than 90 bytes.
 pub const ROOM: usize = 65_536;
-
-// A buffer for the input.
-pub fn input_buffer() -> [u8; INPUT_BYTES]
-    ensures { λ r. ⌜ inputBytes ≡ length r ⌝ }
-{
-    [0; INPUT_BYTES]
-}
 
 // The table of a job's curve, or the line that refuses the job.
 fn put_curve(out: &mut [u8], job: Job, weights: &[u64]) -> usize
