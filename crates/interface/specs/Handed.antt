@@ -1,0 +1,25 @@
+-- Answers and jobs handed over number by number.
+use mathlib.Core.List.{List}
+use Prim.Native.Nat.{ℕ}
+use lib.IntN.{ℤ}
+use lib.ListN.{take}
+use Rattle.model.specs.declared.Job.{Job}
+use Rattle.model.specs.Answer.{Answer}
+use Rattle.sheet.specs.Call.{Told}
+use Rattle.quantile.specs.Call.{Quantiles}
+
+-- a call returns the number of its answer, 0 for an acceptance, and the place goes into a lent number
+abbrev pub returned : ℕ → ℕ → Answer
+returned number place = record { number = number; place = place }
+
+-- k, D, A_1..A_4, B_1..B_4, s, t and X
+abbrev pub jobOf : ℕ → ℕ → List ℤ → List ℤ → ℕ → ℕ → ℕ → Job
+jobOf order divisor a b low high last =
+    record { law = record { order = order; divisor = divisor; a = a; b = b }; start = record { low = low; high = high }; last = last }
+
+-- what the reader tells; the weights are the first of the row
+abbrev pub tells : Answer → Job → ℕ → List ℕ → Told
+tells answer job count row = record { answer = answer; job = job; count = count; weights = take count row }
+
+abbrev pub totals : Answer → ℕ → ℕ → Quantiles
+totals answer sure possible = record { answer = answer; sure = sure; possible = possible }

@@ -1,0 +1,123 @@
+/* Claim totals with proved bounds: the calls for C.
+
+   The chance of each yearly claim total, as a low and a high with a bound on the gap between them, all in units: one unit U is
+   1,000,000,000 and stands for chance 1. README.md says what the numbers of a job mean and what is claimed of the answers.
+
+   Every call takes numbers of any content and rows of any length. It answers with a number: 0 for an acceptance, else that of the refusal,
+   the first in the order of the lists below that holds. Where a call refuses, its place is 0 and it has written nothing but that place,
+   unless its list says otherwise.
+
+   What the caller owes: a pointer is not null and is aligned for its type; a row has as many places as the number after it says (a row of 0
+   places is allowed); what a call writes to overlaps nothing else that it is given; and no other thread writes to any of it during the
+   call. The calls keep no state, allocate nothing, and may run in several threads at once. Each needs less than 8 kB of stack. */
+
+#ifndef CLAIMTOTALS_H
+#define CLAIMTOTALS_H
+
+#include <stddef.h>
+#include <stdint.h>
+
+#ifdef __cplusplus
+extern "C" {
+#endif
+
+#define CLAIMTOTALS_UNIT INT64_C(1000000000)
+
+/* Rows of these numbers of places are always long enough: the weights of a table; low, high and bound; and the work row. */
+#define CLAIMTOTALS_WEIGHTS 500
+#define CLAIMTOTALS_TOTALS 501
+#define CLAIMTOTALS_WORK (9 * CLAIMTOTALS_TOTALS)
+
+/* The curve of a job: low, high and bound of each total from 0 to X.
+
+   order         k, the order of the law
+   divisor       D, the divisor of its terms
+   a, b          A_1..A_4 and B_1..B_4; those past k are 0
+   start_low     s, and
+   start_high    t: U times the chance of no claims lies from s to t
+   last          X, the last total
+   weights       w(1)..w(m), the weights of the claim sizes 1 to m, and their number m; only read
+   low, high,
+   bound         rows for the answer, X+1 places or more
+   work          a row to work in, 9(X+1) places or more
+   place         the place of a refusal; 0 after an acceptance
+
+   0    accepted: the first X+1 places of the three rows hold the curve
+   1    k is not 1 to 4
+   2    D is not 1 to 1,000
+   3    a term is not from -1,000 to 1,000, or is past k and not 0; the place is the smallest such i, from 1
+   4    not 0 <= s <= t <= U with t >= 1
+   5    m is not 1 to 500
+   6    the weights' sum is not 1 to 1,000
+   7    X is above 500
+   8    a row has fewer than X+1 places, or the work row fewer than 9(X+1)
+   9    at the total that is the place, the smallest with a fault, a low or a high would lie outside -2U to 2U, in the curve or in one of
+        the further rows that an order above 1 needs
+   10   none would there, but a bound would be above U
+
+   After 9 and 10 the first X+1 places of the three rows are 0. After 0, 9 and 10 the first 9(X+1) places of the work row are 0. Later
+   places keep what they held. */
+uint64_t claimtotals_curve(uint64_t order, uint64_t divisor, const int64_t a[4], const int64_t b[4], uint64_t start_low,
+                           uint64_t start_high, uint64_t last, const uint64_t *weights, size_t weights_length, int64_t *low,
+                           size_t low_length, int64_t *high, size_t high_length, int64_t *bound, size_t bound_length, int64_t *work,
+                           size_t work_length, size_t *place);
+
+/* The numbers of a sheet.
+
+   sheet         the sheet's bytes; only read
+   row           a row for the weights, m places or more
+   line          the number of the line of a refusal, from 1; 0 with 21 and after an acceptance
+   order, divisor, a, b, start_low, start_high, last
+                 the job, as claimtotals_curve takes it; a and b have 4 places, those past k get 0
+   count         m, the number of weights
+
+   0    accepted: the first m places of the row hold the weights, and later places keep what they held
+   21   the sheet is empty or has more than 16,384 bytes; line 0
+   Then line by line, in this order on a line:
+   22   the line that is due is missing, or has no line end
+   23   it begins with another keyword, or has too many or too few words
+   24   a word is no number here (claimtotals_faulty_word tells which)
+   25   k is not 1 to 4, or m not 1 to 500
+   27   the row has fewer than m places
+   and after the last line:
+   26   bytes follow; the line is where they begin
+
+   After a refusal the row holds what it held, and the numbers of the job and the count are 0. Numbers in good form that are no good for the
+   curve are accepted here and refused there. */
+uint64_t claimtotals_read_sheet(const uint8_t *sheet, size_t sheet_length, uint64_t *row, size_t row_length, size_t *line, uint64_t *order,
+                                uint64_t *divisor, int64_t a[4], int64_t b[4], uint64_t *start_low, uint64_t *start_high, uint64_t *last,
+                                size_t *count);
+
+/* The word that refusal 24 is about, as a part of the sheet.
+
+   sheet         the sheet's bytes; only read
+   places        how many places the row had that the sheet was read for
+   start         where the word begins, counted in bytes from 0
+   length        how many bytes it has; with 24 it may be 0, as a word may be empty
+
+   After any other answer of claimtotals_read_sheet both are 0. It refuses nothing. */
+void claimtotals_faulty_word(const uint8_t *sheet, size_t sheet_length, size_t places, size_t *start, size_t *length);
+
+/* The level query: the total up to which the chances of a curve reach a level.
+
+   low, high     the first X+1 places of a curve's rows; only read
+   level         L, in units
+   place         the place of a refusal; 0 after an acceptance
+   sure          the smallest total at which the lows, added up from total 0 on, come to L or more
+   possible      the smallest total at which the highs do
+
+   0    accepted
+   31   the rows are empty, not equally long, or longer than 501
+   32   L is not 1 to U
+   33   at the place, the first such, a low or a high lies outside -2U to 2U, or the low is above the high
+   34   the lows never come to L
+
+   After a refusal both totals are 0. */
+uint64_t claimtotals_quantile(const int64_t *low, size_t low_length, const int64_t *high, size_t high_length, int64_t level, size_t *place,
+                              size_t *sure, size_t *possible);
+
+#ifdef __cplusplus
+}
+#endif
+
+#endif
