@@ -1,12 +1,13 @@
-// The sheet reader.
+// The sheet reader, and the place of the faulty word.
 
 use sheet::LineAnswer;
+use sheet::faulty_part;
 use sheet::read_sheet;
 use sheet::reason_number;
 ghost use mathlib.Core.Path.{_≡_};
 ghost use lib.ListN.{length};
 ghost use Rattle.sheet.specs.Reading.{reading};
-ghost use Rattle.sheet.specs.Call.{answerOf, told, rowOnReturn};
+ghost use Rattle.sheet.specs.Call.{answerOf, told, rowOnReturn, partOf, faultyPart};
 ghost use Rattle.interface.specs.Handed.{returned, jobOf, tells};
 
 fn number_of(answer: LineAnswer) -> u64
@@ -42,8 +43,8 @@ pub extern "C" fn claimtotals_read_sheet(
     count: &mut usize,
 ) -> u64
     ensures answer { λ r. ⌜ tells (returned r (now (line .exit)))
-        (jobOf (now (order .exit)) (now (divisor .exit)) (now (a .exit)) (now (b .exit)) (now («start_low» .exit)) (now («start_high» .exit))
-        (now (last .exit)))
+        (jobOf (now (order .exit)) (now (divisor .exit)) (now (a .exit)) (now (b .exit))
+        (now («start_low» .exit)) (now («start_high» .exit)) (now (last .exit)))
         (now (count .exit)) (now (row .exit))
         ≡ told (reading (length (now (row .entry))) (now (sheet .entry))) ⌝ }
     ensures row { λ r. ⌜ now (row .exit) ≡ rowOnReturn (reading (length (now (row .entry))) (now (sheet .entry))) (now (row .entry)) ⌝ }
@@ -65,4 +66,18 @@ pub extern "C" fn claimtotals_read_sheet(
     let answer = read.answer;
     *line = line_of(answer);
     number_of(answer)
+}
+
+#[no_mangle]
+pub extern "C" fn claimtotals_faulty_word(
+    sheet: &[u8],
+    places: usize,
+    start: &mut usize,
+    length: &mut usize,
+)
+    ensures { λ _. ⌜ partOf (now (start .exit)) (now (length .exit)) ≡ faultyPart places (now (sheet .entry)) ⌝ }
+{
+    let part = faulty_part(sheet, places);
+    *start = part.start;
+    *length = part.length;
 }

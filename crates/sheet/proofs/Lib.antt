@@ -5,3 +5,4 @@ pub mod Taken
 pub mod LinePrinted
 pub mod Texts
 pub mod Steps
+pub mod Located

@@ -4,7 +4,7 @@ use mathlib.Core.Path.{_≡_}
 use mathlib.Core.Bool.{Bool}
 use mathlib.Core.List.{List, _∷_, _++_}
 use mathlib.Core.Option.{none, some}
-use Prim.Native.Nat.{ℕ, _≤_}
+use Prim.Native.Nat.{ℕ, _+_, _≤_}
 use lib.IntN.{ℤ, pos}
 use lib.ListN.{length, getD}
 use Rattle.text.specs.Lines.{lineAt}
@@ -12,7 +12,8 @@ use Rattle.text.specs.Numbers.{AtMostTenDigits, number}
 use Rattle.sheet.specs.Sheet.{Sheet, sheetText}
 use Rattle.sheet.specs.Line.{allNumbers}
 use Rattle.sheet.specs.Reading.{reads, refuses, reading}
-use Rattle.sheet.specs.Call.{numberWords, signsOn, faultyWord}
+use Rattle.sheet.specs.Call.{numberWords, signsOn, faultyWord, bytesOf, faultyPart}
+use Rattle.sheet.specs.declared.Part.{Part}
 
 -- the four terms of a law, at most 10 digits each; those past the order are zero
 pub record Terms (order : ℕ) (terms : List ℤ) : Type 0 where
@@ -61,3 +62,12 @@ pub record FirstFaulty (signs : Bool) (ws : List (List ℕ)) (word : List ℕ) :
 abbrev pub HandsBackFirstFaulty : Type 0
 HandsBackFirstFaulty = (places : ℕ) (s : List ℕ) (n : ℕ) → reading places s ≡ refuses 24 n
     → FirstFaulty (signsOn (lineAt n s)) (numberWords (lineAt n s)) (faultyWord places s)
+
+-- a part of a text has the bytes of a word
+pub record Stands (part : Part) (s word : List ℕ) : Type 0 where
+  pub within : part .start + part .length ≤ length s
+  pub bytes : bytesOf part s ≡ word
+
+-- the faulty word's part of the sheet
+abbrev pub FaultyPartStands : Type 0
+FaultyPartStands = (places : ℕ) (s : List ℕ) → Stands (faultyPart places s) s (faultyWord places s)

@@ -1,12 +1,16 @@
 // The first word of a line that is no number there.
 
+use super::Part;
 use text::Number;
+use text::lines::line_start;
 use text::lines::same;
 use text::lines::until;
 use text::numbers::number;
 ghost use mathlib.Core.Path.{_≡_};
+ghost use Prim.Native.Nat.{_+_};
+ghost use lib.ListN.{length};
 ghost use Rattle.text.specs.Numbers.{number as wordNumber};
-ghost use Rattle.sheet.specs.Call.{isNone, firstNoNumber, numberWords, signsOn, faultOn};
+ghost use Rattle.sheet.specs.Call.{isNone, keywordOf, numberWords, signsOn, firstPart, partAt};
 
 fn is_no_number(word: &[u8], signs: bool) -> bool
     ensures { λ r. ⌜ r ≡ isNone (wordNumber signs (now (word .entry))) ⌝ }
@@ -25,9 +29,9 @@ fn has_signs(line: &[u8]) -> bool
     same(&line[..space], b"TERM")
 }
 
-// The first word after the keyword that is no number, and an empty part where each is one.
-fn first_no_number(line: &[u8], signs: bool) -> &[u8]
-    ensures { λ r. ⌜ now r ≡ firstNoNumber signs (numberWords (now (line .entry))) ⌝ }
+// The first word after the keyword that is no number, as a part of the line; an empty part where each is one.
+fn first_no_number(line: &[u8], signs: bool) -> Part
+    ensures { λ r. ⌜ r ≡ firstPart signs (length (keywordOf (now (line .entry))) + 1) (numberWords (now (line .entry))) ⌝ }
 {
     let mut rest = line;
     let mut space = until(rest, b' ');
@@ -35,14 +39,29 @@ fn first_no_number(line: &[u8], signs: bool) -> &[u8]
         rest = &rest[space + 1..];
         space = until(rest, b' ');
         if is_no_number(&rest[..space], signs) {
-            return &rest[..space];
+            return Part {
+                start: line.len() - rest.len(),
+                length: space,
+            };
         }
     }
-    &rest[..0]
+    Part {
+        start: 0,
+        length: 0,
+    }
 }
 
-pub fn first_fault(line: &[u8]) -> &[u8]
-    ensures { λ r. ⌜ now r ≡ faultOn (now (line .entry)) ⌝ }
+// The first word on line `n` that is no number there.
+pub fn first_fault(sheet: &[u8], n: usize) -> Part
+    ensures { λ r. ⌜ r ≡ partAt n (now (sheet .entry)) ⌝ }
 {
-    first_no_number(line, has_signs(line))
+    let start = line_start(sheet, n);
+    let rest = &sheet[start..];
+    let end = until(rest, b'\n');
+    let line = &rest[..end];
+    let word = first_no_number(line, has_signs(line));
+    Part {
+        start: start + word.start,
+        length: word.length,
+    }
 }

@@ -7,13 +7,12 @@ mod reader;
 use fault::first_fault;
 use model::Job;
 use reader::read_text;
-use text::lines::line_at;
 ghost use mathlib.Core.Path.{_≡_};
 ghost use Prim.Native.Nat.{_≤_};
 ghost use lib.ListN.{length};
 ghost use Rattle.algebra.specs.Slice.{written};
 ghost use Rattle.sheet.specs.Reading.{reading};
-ghost use Rattle.sheet.specs.Call.{numberOf, paper, told, rowOnReturn, faultyWord};
+ghost use Rattle.sheet.specs.Call.{numberOf, paper, told, rowOnReturn, faultyWord, faultyPart};
 
 // The most weights that a sheet may have, and so the places of the reader's own row.
 const MOST_WEIGHTS: usize = 500;
@@ -47,6 +46,12 @@ pub struct SheetRead {
     pub answer: LineAnswer,
     pub job: Job,
     pub count: usize,
+}
+
+// A part of a sheet: so many bytes from `start` on, which is counted from 0.
+pub struct Part {
+    pub start: usize,
+    pub length: usize,
 }
 
 // The paper's number of a reason.
@@ -87,21 +92,38 @@ pub fn read_sheet(sheet: &[u8], row: &mut [u64]) -> SheetRead
     read
 }
 
-// The word that refusal 24 is about, as a part of the sheet; an empty part after any other answer. `places` is the number of places of the
-// row that the sheet was read for.
-pub fn faulty_word(sheet: &[u8], places: usize) -> &[u8]
-    ensures { λ r. ⌜ now r ≡ faultyWord places (now (sheet .entry)) ⌝ }
+// Where the word that refusal 24 is about stands in the sheet; an empty part at its front after any other answer. `places` is the number of
+// places of the row that the sheet was read for.
+pub fn faulty_part(sheet: &[u8], places: usize) -> Part
+    ensures { λ r. ⌜ r ≡ faultyPart places (now (sheet .entry)) ⌝ }
 {
     let mut weights = [0u64; MOST_WEIGHTS];
     let read = read_text(sheet, places, &mut weights);
     let answer = read.answer;
     match answer {
-        LineAnswer::Accepted => &sheet[..0],
+        LineAnswer::Accepted => Part {
+            start: 0,
+            length: 0,
+        },
         LineAnswer::Refused(reason, line) => {
             if reason_number(reason) == 24 {
-                return first_fault(line_at(sheet, line));
+                return first_fault(sheet, line);
             }
-            &sheet[..0]
+            Part {
+                start: 0,
+                length: 0,
+            }
         }
     }
+}
+
+// The word itself.
+pub fn faulty_word(sheet: &[u8], places: usize) -> &[u8]
+    ensures { λ r. ⌜ now r ≡ faultyWord places (now (sheet .entry)) ⌝ }
+{
+    let part = faulty_part(sheet, places);
+    let start = part.start;
+    let length = part.length;
+    let rest = &sheet[start..];
+    &rest[..length]
 }

@@ -4,15 +4,17 @@ use mathlib.Core.Path.{_≡_, refl, sym, ap, _∙_}
 use mathlib.Core.Bool.{Bool, true, false, cond, and-false}
 use mathlib.Core.List.{List, [], _∷_}
 use Prim.Native.Nat.{ℕ, zero, suc, _+_, _-_, _≤_, _<_}
+use native.Mathlib.Nat as NL
 use native.Mathlib.Numerals.{add-one}
 use native.Mathlib.Omega.{arith}
 use borrow.Author.Tests.{eq-eqb, ne-eqb, lt-ltb, le-ltb}
 use lib.Dec.{eqb, ltb, leb·suc-suc}
-use lib.ListN.{length, take, drop, getD, drop-of-length-le}
+use lib.ListN.{length, take, drop, getD, length-drop, drop-of-length-le}
+use lib.Seq.{drop-drop}
 use Rattle.algebra.specs.Table.{sameList}
 use Rattle.algebra.proofs.Slice.{drop-next}
 use Rattle.text.specs.Bytes.{lineEnd, space}
-use Rattle.text.specs.Lines.{before, after, has, afterLines, longer, words}
+use Rattle.text.specs.Lines.{before, after, has, afterLines, longer, words, LineStarts}
 
 -- ---- one step of a loop
 -- the byte at i is b, and it is not
@@ -88,6 +90,27 @@ module _ (b : ℕ) where
           → cond t true (has b s) ≡ ltb (length (cond t [] (x ∷ before b s))) (suc (length s))
       by true ih = sym (lt-ltb 0 (suc (length s)) (omega arith))
       by false ih = ih ∙ sym (leb·suc-suc (suc (length (before b s))) (length s))
+
+-- ---- where lines begin
+-- what is left of a text is the text from some place on, and its length says from which
+pub left-from : {A : Type 0} (j : ℕ) (s : List A) → drop (length s - length (drop j s)) s ≡ drop j s
+left-from zero s = ap (λ (k : ℕ). drop k s) (NL.sub-self (length s))
+left-from (suc j) [] = refl
+left-from (suc j) (x ∷ s) = ap (λ (k : ℕ). drop k (x ∷ s)) one-more ∙ left-from j s
+  where
+    one-more : suc (length s) - length (drop j s) ≡ suc (length s - length (drop j s))
+    one-more = rw (length-drop j s) (omega arith)
+
+lines-from : (n : ℕ) (s : List ℕ) → (j : ℕ) × (afterLines n s ≡ drop j s)
+unfolding afterLines
+lines-from zero s = (0, refl)
+lines-from (suc n) s =
+    let further = lines-from n (after lineEnd s) in
+    let first = suc (length (before lineEnd s)) in
+    (first + further .0, further .1 ∙ ap (drop (further .0)) (sym (after-drop lineEnd s)) ∙ drop-drop (further .0) first s)
+
+pub line-starts : LineStarts
+line-starts n s = let at = lines-from (n - 1) s in rw (at .1) (left-from (at .0) s)
 
 -- what `until` tells: k bytes stand before the first b
 module _ (b : ℕ) (s : List ℕ) (k : ℕ) (e : k ≡ length (before b s)) where

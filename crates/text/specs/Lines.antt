@@ -4,6 +4,7 @@ use mathlib.Core.Bool.{Bool, true, false, not, cond}
 use mathlib.Core.List.{List, [], _∷_, _++_}
 use Prim.Native.Nat.{ℕ, zero, suc, _-_}
 use lib.Dec.{eqb}
+use lib.ListN.{length, drop}
 use Rattle.algebra.specs.Table.{every}
 use Rattle.text.specs.Bytes.{lineEnd, space}
 
@@ -31,6 +32,10 @@ afterLines (suc n) s = afterLines n (after lineEnd s)
 abbrev pub lineAt : ℕ → List ℕ → List ℕ
 lineAt n s = before lineEnd (afterLines (n - 1) s)
 
+-- how many bytes stand before line n
+abbrev pub lineStart : ℕ → List ℕ → ℕ
+lineStart n s = length s - length (afterLines (n - 1) s)
+
 -- ---- words
 -- one byte more at the front of the first word
 unfoldable pub longer : ℕ → List (List ℕ) → List (List ℕ)
@@ -56,6 +61,10 @@ SplitAtFirst = (b : ℕ) (s : List ℕ) → has b s ≡ true → s ≡ before b 
 abbrev pub FirstAfter : Type 0
 FirstAfter = (b : ℕ) (s rest : List ℕ) → has b s ≡ false
     → (has b (s ++ (b ∷ rest)) ≡ true) × (before b (s ++ (b ∷ rest)) ≡ s) × (after b (s ++ (b ∷ rest)) ≡ rest)
+
+-- line n begins there
+abbrev pub LineStarts : Type 0
+LineStarts = (n : ℕ) (s : List ℕ) → drop (lineStart n s) s ≡ afterLines (n - 1) s
 
 -- a line is its words with single spaces between them
 abbrev pub WordsJoined : Type 0

@@ -5,7 +5,7 @@ ghost use Prim.Native.Nat.{_≤_};
 ghost use lib.Dec.{eqb};
 ghost use lib.ListN.{length, drop};
 ghost use Rattle.algebra.specs.Table.{sameList};
-ghost use Rattle.text.specs.Lines.{before, after, lineAt};
+ghost use Rattle.text.specs.Lines.{before, after, lineStart};
 
 // How many bytes of `s` stand before its first `b`: all of them where it has none.
 pub fn until(s: &[u8], b: u8) -> usize
@@ -46,15 +46,14 @@ pub fn same(s: &[u8], t: &[u8]) -> bool
     true
 }
 
-// Line `n`, from 1, as a part of `text`, without its line end.
-pub fn line_at(text: &[u8], n: usize) -> &[u8]
-    ensures { λ r. ⌜ now r ≡ lineAt n (now (text .entry)) ⌝ }
+// Where line `n`, from 1, begins.
+pub fn line_start(text: &[u8], n: usize) -> usize
+    ensures { λ r. ⌜ r ≡ lineStart n (now (text .entry)) ⌝ }
 {
     let mut rest = text;
     for _ in 1..n {
         let next = past(rest, b'\n');
         rest = &rest[next..];
     }
-    let end = until(rest, b'\n');
-    &rest[..end]
+    text.len() - rest.len()
 }

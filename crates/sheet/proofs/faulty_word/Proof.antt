@@ -1,79 +1,51 @@
--- By the answer: its number says whether there is a word, its line where.
+-- The part of the sheet has the word's bytes.
 use borrow.Author.Needs.{needs}
-use mathlib.Core.Path.{_≡_, sym, ap, _∙_}
-use mathlib.Core.Bool.{Bool, true, false, cond}
-use mathlib.Core.List.{List, []}
-use Prim.Native.Nat.{ℕ}
-use borrow.Author.Tests.{eq-eqb, ne-eqb}
-use lib.Dec.{eqb}
-use Rattle.model.specs.Answer.{Answer, refused}
-use Rattle.text.specs.Lines.{lineAt}
-use Rattle.sheet.specs.declared.LineAnswer.{LineAnswer}
-use Rattle.sheet.specs.Reading.{Reading, reads, refuses, reading}
-use Rattle.sheet.specs.Call.{Told, answerOf, told, faultOn, wordOf, faultyWord}
+use mathlib.Core.Path.{_≡_, subst, sym, ap, _∙_}
+use mathlib.Core.List.{List}
+use Prim.Native.Nat.{ℕ, _-_, _≤_}
+use native.Mathlib.Omega.{arith}
+use lib.ListN.{length, take, drop, length-drop}
+use lib.Seq.{length-take-le}
+use Rattle.algebra.proofs.Slice.{part-to-end}
+use Rattle.sheet.specs.declared.Part.{Part}
+use Rattle.sheet.specs.Call.{faultyWord}
+use Rattle.sheet.specs.Accepts.{Stands}
+use Rattle.sheet.proofs.Located.{faulty-part-stands}
 use Rattle.sheet.proofs.faulty_word.Statement.{statement}
 use Rattle.sheet.proofs.faulty_word.Tie as tie
 
--- an acceptance has the number 0, which is not 24
-by-answer : (r : Reading) (s : List ℕ) (number line : ℕ) → refused number line ≡ told r .answer
-    → wordOf r s ≡ cond (eqb number 24) (faultOn (lineAt line s)) []
-by-answer (reads sheet) s number line e = rw (ap (λ (a : Answer). a .number) e)
-by-answer (refuses n l) s number line e = ap (λ (a : Answer). cond (eqb (a .number) 24) (faultOn (lineAt (a .place) s)) []) (sym e)
-
--- what the answer says of the word
-module _ (c : tie.After-read-text) where
+module _ (c : tie.After-faulty-part) where
   abbrev sheet : List ℕ
-  sheet = c .before .before .before .args .sheet .now
+  sheet = c .before .before .args .sheet .now
 
   abbrev places : ℕ
-  places = c .before .before .before .args .places
+  places = c .before .before .args .places
 
-  word-by : (answer : LineAnswer) → c .read-text .result .answer ≡ answer
-      → faultyWord places sheet
-      ≡ cond (eqb (answerOf answer .number) 24) (faultOn (lineAt (answerOf answer .place) sheet)) []
-  word-by answer e =
-      by-answer (reading places sheet) sheet _ _ (ap answerOf (sym e) ∙ ap (λ (t : Told). t .answer) (c .read-text .ensures))
+  abbrev part : Part
+  part = c .faulty-part .result
 
--- a refusal by another number, and one by 24
-module _ (c : tie.After-reason-number) where
-  abbrev read : tie.After-read-text
-  read = c .before .before .before .before .before
+  stands : Stands part sheet (faultyWord places sheet)
+  stands = subst (λ (p : Part). Stands p sheet (faultyWord places sheet)) (sym (c .faulty-part .ensures)) (faulty-part-stands places sheet)
 
-  abbrev line : ℕ
-  line = c .before .before .answer .given .0 .1 .0
+  abbrev rest : List ℕ
+  rest = take (length sheet - part .start) (drop (part .start) sheet)
 
-  by-number : (t : Bool) → eqb (c .reason-number .result) 24 ≡ t
-      → faultyWord (places read) (sheet read) ≡ cond t (faultOn (lineAt line (sheet read))) []
-  by-number t e =
-      word-by read _ (c .before .before .answer .given .1)
-      ∙ ap (λ (q : Bool). cond q (faultOn (lineAt line (sheet read))) [])
-      (ap (λ (n : ℕ). eqb n 24) (sym (c .reason-number .ensures)) ∙ e)
+  whole : rest ≡ drop (part .start) sheet
+  whole = part-to-end sheet (part .start)
 
-returns : tie.Need-returns
-returns c =
-    let at = c .before .before .before in
-    c .first-fault .ensures ∙ ap faultOn (c .before .line-at .ensures)
-    ∙ sym (by-number at true (eq-eqb _ 24 (c .before .before .if1 .taken)))
+  long-enough : part .length ≤ length rest
+  long-enough = rw (whole, length-drop (part .start) sheet) (omega (arith, stands .within))
 
-returns-2 : tie.Need-returns-2
-returns-2 c = sym (word-by (c .before .before .before .before) _ (c .before .enum-told .given .1))
-
-returns-3 : tie.Need-returns-3
-returns-3 c = sym (by-number (c .before .before) false (ne-eqb _ 24 (c .before .if1 .left)))
+  word-is : take (part .length) rest ≡ faultyWord places sheet
+  word-is = ap (take (part .length)) whole ∙ stands .bytes
 
 pub faulty-word-spec : {M : Type 1} → statement M
 faulty-word-spec =
     tie.close
     (tie.spec
-    (λ c. search needs)
     (λ c κs. search needs)
+    (λ c. omega (arith, stands c .within))
+    (λ c. omega (arith, stands c .within))
     (λ c. search needs)
-    (λ c. search needs)
-    (λ c. search needs)
-    (λ c κs. search needs)
-    (λ c κs. search needs)
-    (λ c κs. search needs)
-    returns
-    (λ c. search needs)
-    returns-2
-    returns-3)
+    (λ c. let at = c .before .before in sym (length-take-le (part at .length) (rest at) (long-enough at)))
+    (λ c. word-is (c .before .before)))
