@@ -1,6 +1,6 @@
-"""Sets the sheets in examples/ beside the laws that examples/README.md names: the starts are U times the chance of no claims, rounded down
-and up, and the exact amounts of the law lie from the lows to the highs of the table that the program is to write. Every sheet there must
-be known here."""
+"""Sets the sheets in examples/ beside the laws that examples/README.md and docs/CLASS.md name: the starts are U times the chance of no
+claims, rounded down and up, and the exact amounts of the law lie from the lows to the highs of the table that the program is to write.
+Every sheet there must be known here."""
 import math
 import pathlib
 import sys
@@ -14,22 +14,41 @@ from sheet import read_job
 
 FOLDER = pathlib.Path(__file__).parent.parent / "examples"
 
-# The law of each sheet, by its closed form, and its chance of no claims; e to the power -2 to fifty digits.
+HALF, THIRD, QUARTER, FIFTH = (Fraction(1, n) for n in (2, 3, 4, 5))
+VANS = exact.binomial(5, FIFTH)
+
+
+def e_to(power):
+    """To fifty digits."""
+    return Fraction(Context(prec=50).exp(Decimal(power)))
+
+
+# The law of each sheet, by its closed form, and its chance of no claims.
 LAWS = {
-    "poisson.txt": (exact.poisson(2), Fraction(Context(prec=50).exp(Decimal(-2)))),
+    "poisson.txt": (exact.poisson(2), e_to("-2")),
     "binomial.txt": (exact.binomial(12, Fraction(1, 10)), Fraction(9, 10) ** 12),
     "negative_binomial.txt": (exact.negative_binomial(3, Fraction(1, 3)), Fraction(2, 3) ** 3),
-    "coin_toss.txt": (exact.binomial(3, Fraction(1, 2)), Fraction(1, 2) ** 3),
+    "coin_toss.txt": (exact.binomial(3, HALF), HALF ** 3),
+    "class/poisson.txt": (exact.poisson(1), e_to("-1")),
+    "class/binomial.txt": (exact.binomial(3, Fraction(7, 10)), Fraction(3, 10) ** 3),
+    # no distribution: each amount is -1/2 times the one before
+    "class/no_law.txt": (exact.geometric(-HALF), Fraction(1000, UNIT)),
+    "class/two_groups.txt": (exact.together(VANS, exact.binomial(3, THIRD)), (4 * FIFTH) ** 5 * (2 * THIRD) ** 3),
+    "class/bicycles.txt": (exact.together(VANS, exact.poisson(1)), (4 * FIFTH) ** 5 * e_to("-1")),
+    "class/pairs.txt": (exact.together(exact.poisson(1), exact.bunches(2, exact.poisson(QUARTER))), e_to("-1.25")),
+    "class/growing.txt": (exact.binomial(14, 4 * FIFTH), FIFTH ** 14),
+    "class/turned.txt": (exact.binomial(14, 2 * FIFTH), (3 * FIFTH) ** 14),
 }
-REFUSED = {"refused.txt": b"REFUSED 24 8\n"}
+REFUSED = {"refused.txt": b"REFUSED 24 8\n", "class/growing.txt": b"REFUSED 10 19\n"}
 
 
-def law_faults(sheet, law, none):
-    job = read_job(sheet, program.MOST_WEIGHTS)
-    start = UNIT * none
+def start_faults(job, start):
     if (job.low_start, job.high_start) != (math.floor(start), math.ceil(start)):
         yield f"START is not {math.floor(start)} {math.ceil(start)}"
-    heading, *lines = program.output(sheet).splitlines()
+
+
+def table_faults(job, table, law, start):
+    heading, *lines = table.splitlines()
     if len(lines) != job.last + 1:
         yield f"no table, but {heading!r}"
     for line in lines:
@@ -39,19 +58,25 @@ def law_faults(sheet, law, none):
             yield f"at {total}: the exact amount, about {float(amount)}, is not from {low} to {high}"
 
 
-def faults(path):
-    sheet = path.read_bytes()
-    if path.name in REFUSED:
-        return [] if program.output(sheet) == REFUSED[path.name] else [f"the calculator says {program.output(sheet)!r:.200}"]
-    return list(law_faults(sheet, *LAWS[path.name]))
+def faults(name):
+    sheet = (FOLDER / name).read_bytes()
+    table = program.output(sheet)
+    if table != REFUSED.get(name, table):
+        yield f"the calculator says {table!r:.200}"
+    if name in LAWS:
+        law, none = LAWS[name]
+        job = read_job(sheet, program.MOST_WEIGHTS)
+        yield from start_faults(job, UNIT * none)
+        if name not in REFUSED:
+            yield from table_faults(job, table, law, UNIT * none)
 
 
 def main():
-    paths = sorted(FOLDER.glob("*.txt"))
-    if {path.name for path in paths} != LAWS.keys() | REFUSED.keys():
-        sys.exit(f"not the sheets that are known here: {paths}")
-    found = [f"{path.name}: {fault}" for path in paths for fault in faults(path)]
-    print(*found, f"examples: {len(paths)} sheets set beside the calculator, {len(found)} faults", sep="\n")
+    names = sorted(path.relative_to(FOLDER).as_posix() for path in FOLDER.rglob("*.txt"))
+    if set(names) != LAWS.keys() | REFUSED.keys():
+        sys.exit(f"not the sheets that are known here: {names}")
+    found = [f"{name}: {fault}" for name in names for fault in faults(name)]
+    print(*found, f"examples: {len(names)} sheets set beside the calculator, {len(found)} faults", sep="\n")
     if found:
         sys.exit(1)
 
