@@ -1,0 +1,210 @@
+"""The sentences of docs/CLASS.md that have numbers, with the numbers worked out: each must stand there, word for word. Exact chances come
+from the closed forms of the laws."""
+import math
+import re
+from decimal import Context, Decimal
+from fractions import Fraction
+from itertools import accumulate, combinations
+
+from lesson import both_round_to, cut, evaluate, job, lines, rows
+
+import exact
+from level import level_query
+from nearest import nearest, nine_digits
+from outward import UNIT
+
+HALF, THIRD, QUARTER, FIFTH = (Fraction(1, n) for n in (2, 3, 4, 5))
+E_1, E_QUARTER = (Fraction(Context(prec=50).exp(Decimal(power))) for power in ("-1", "-0.25"))
+
+# The exact amounts of the lesson's laws, in units.
+PUMPS = exact.amounts(exact.binomial(3, Fraction(7, 10)), [2, 1], UNIT * Fraction(3, 10) ** 3, 48)
+GROUPS = exact.amounts(exact.together(exact.binomial(5, FIFTH), exact.binomial(3, THIRD)), [3, 2, 1],
+                       UNIT * (4 * FIFTH) ** 5 * (2 * THIRD) ** 3, 26)
+MOWERS = exact.amounts(exact.binomial(14, 4 * FIFTH), [1, 3], UNIT * FIFTH ** 14, 28)
+TURNED = exact.amounts(exact.binomial(14, 2 * FIFTH), [1, 1], UNIT * (3 * FIFTH) ** 14, 28)
+
+
+def where(holds, sentence):
+    """A sentence that says what was found to hold; else one that does not stand in the text."""
+    return sentence if holds else f"(does not hold) {sentence}"
+
+
+def column(name, place):
+    return [row[place] for row in rows(name)]
+
+
+def greatest(amounts):
+    """The greatest total that can come up."""
+    return max(total for total, amount in enumerate(amounts) if amount)
+
+
+def poisson_table():
+    low, high, bound = (column("poisson.txt", place) for place in (1, 2, 3))
+    widths = {end - start for start, end in zip(low, high)}
+    yield f"{low[7]} is the chance {nine_digits(low[7])}."
+    yield (f"The enclosures are {min(widths)} or {max(widths)} units wide from the first line to the last, and no bound is above "
+           f"{max(bound)}.")
+    digits = [len(str(int(both_round_to((low[total], high[total]), 8)[2:]))) for total in (2, 14, 18)]
+    yield where(digits == [8, 3, 1] and both_round_to((low[20], high[20]), 8) == "0.00000000",
+                "fewer of their digits are left: eight at total 2, three at total 14, one at total 18. At total 20 none is left,")
+    sums = [list(accumulate(column)) for column in (low, high)]
+    to_ten = sums[0][10], sums[1][10]
+    beyond = UNIT - to_ten[1], UNIT - to_ten[0]
+    yield (f"The lows add up to {to_ten[0]} and the highs to {to_ten[1]}. The chance of a total above 10 is what is missing to "
+           f"{UNIT:,}: from {beyond[0]} to {beyond[1]} units. Write down {both_round_to(beyond, 7)}; to one digit more the two differ.")
+    _, _, sure, possible = level_query(low, high, UNIT * 99 // 100)
+    yield (f"Up to total {sure}. To total {possible - 1} even the highs add up to no more than {sums[1][possible - 1]}, to total {sure} "
+           f"the lows add up to {sums[0][sure]}.")
+
+
+def binomial_law():
+    chance = Fraction(7, 10)
+    odds = chance / (1 - chance)
+    yield (f"with chance {chance} each. A repair costs 1 or 2, the 1 twice as likely, so no year costs more than {greatest(PUMPS)}. "
+           f"This is a binomial law with N = 3 and p = {chance}: A/D is -p/(1-p) = {-odds}, B/D is (N+1)p/(1-p) = {4 * odds},")
+
+
+def binomial_table():
+    table = rows("binomial.txt")
+    yield f"No total above {greatest(PUMPS)} can come up, and no chance is below zero."
+    _, low, high, _ = table[8]
+    yield f"At total 8 the table says: from {low} to {high}. The exact chance, {PUMPS[8]}, is there."
+    amount = exact.amount(exact.geometric(-HALF), [1], 1000, 1)
+    yield f"Here each amount is {-HALF} times the one before, so that of total 1 is {amount} exactly"
+    yield (f"For total 5, {both_round_to(table[5][1:3], 8)}: both ends round to it. For total 7, that it is at most "
+           f"{nine_digits(table[7][2])}; from the law you know that it is {PUMPS[7]}.")
+    sums = [sum(column("binomial.txt", place)[:7]) for place in (1, 2)]
+    yield f"the lows of the totals 0 to 6 add up to {sums[0]} and the highs to {sums[1]}."
+    yield (f"It is 7/3 in part 2, where they go up from {table[8][3]} to {table[12][3]} though the start was exact, and "
+           f"{-job('growing.txt').a[0]} here.")
+    refusal = lines("binomial.txt", 500)[0]
+    yield f"`{refusal}`. No year costs more than 6, so the exact chance of total 48 is {PUMPS[int(refusal.split()[2])]}."
+
+
+def binomial_nearest():
+    """Sum over divisor of the recursion that rounds to the nearest, before it is rounded."""
+    values = nearest(job("binomial.txt", 500), 27_000_000)
+    shares = [Fraction((28 - 7 * x) * 2 * values[x - 1] + (56 - 7 * x) * values[x - 2], 9 * x) for x in range(8, 501)]
+    in_turn = all(share == shares[place % 2] for place, share in enumerate(shares))
+    yield where(in_turn, f"From total 8 on the sum over the divisor is {shares[1]} or {shares[0]} in turn, and this is rounded to "
+                         f"{round(shares[1])} or {round(shares[0])} each time.")
+
+
+# Laws of order 1, each by a, b and its closed form.
+ORDER_1 = [
+    (-QUARTER, 6 * QUARTER, exact.binomial(5, FIFTH)),
+    (-HALF, 2, exact.binomial(3, THIRD)),
+    (0, 1, exact.poisson(1)),
+    (THIRD, 2 * THIRD, exact.negative_binomial(3, THIRD)),
+]
+
+
+def serves(first, second):
+    """Whether the lesson's four lines give the law of the claims of both."""
+    (a, b, p), (c, d, q) = first, second
+    terms = [a + c, -a * c], [b + d, -(a * d + b * c)]
+    whole = [[int(72 * term) for term in side] for side in terms]
+    both, by_terms = exact.together(p, q), exact.by_terms(72, *whole)
+    return all(both(n) == by_terms(n) for n in range(12))
+
+
+def group_law():
+    all_serve = all(serves(*pair) for pair in combinations(ORDER_1, 2))
+    yield where(all_serve, "The same four lines serve any two laws of order 1 (source 002 of README.md, Section 4).")
+    yield f"each with a claim by chance {FIFTH} in a year, and three tractors, each with a claim by chance {THIRD}."
+    yield f"A van has a claim with the odds {FIFTH / (1 - FIFTH)} and a tractor with the odds {THIRD / (1 - THIRD)}."
+    read = job("bicycles.txt")
+    terms = [Fraction(term, read.divisor) for pair in zip(read.a[:2], read.b[:2]) for term in pair]
+    yield where(terms[1] == evaluate("6/4 + 1"), f"the terms are {terms[0]}, 6/4 + 1, {terms[2]} and {terms[3]}, over D = {read.divisor}.")
+    yield f"(4/5)^5 times e^-1, which is {cut((4 * FIFTH) ** 5 * E_1, 11)}"
+    pairs = exact.together(exact.poisson(1), exact.bunches(2, exact.poisson(QUARTER)))
+    as_said = all(n * pairs(n) == pairs(n - 1) + 2 * QUARTER * pairs(n - 2) for n in range(2, 12))
+    yield where(as_said, f"pairs come by a Poisson law of mean {QUARTER}, beside the single claims of mean 1. Count as in part 3: n times "
+                         f"the chance of n claims is 1 times that of n-1 plus 2 × {QUARTER} times that of n-2,")
+    yield f"e^-1 times e^-(1/4), which is {cut(E_1 * E_QUARTER, 11)}"
+
+
+def group_table():
+    table = rows("two_groups.txt")
+    yield f"up to {max(high - low for _, low, high, _ in table)} units, with bounds up to {max(bound for *_, bound in table)}."
+    last = greatest(GROUPS)
+    yield f"The greatest possible total is {last}."
+    small = GROUPS[last] < Fraction(1, 100)
+    yield where(small, f"(1/5)^5 × (1/3)^3 × (1/6)^8 = {GROUPS[last] / UNIT}, less than a hundredth of a unit. The line says from "
+                       f"{table[last][1]} to {table[last][2]},")
+
+
+def growing_table():
+    start = UNIT * FIFTH ** 14
+    yield (f"with chance {4 * FIFTH}; a repair costs 1 or 2, the 2 three times as likely. So no year costs more than "
+           f"{greatest(MOWERS)}.")
+    yield f"which is {float(start)} units. A sheet cannot say that better than from {math.floor(start)} to {math.ceil(start)}."
+    times = [amount / start for amount in MOWERS]
+    yield f"{times[1]} at total 1, {times[2]} at total 2, {times[18]} at total 18."
+    _, number, place = lines("growing.txt")[0].split()
+    yield f"Refusal {number} at total {place}: a bound would be above {UNIT:,} there."
+    table = rows("growing.txt", 18)
+    _, low, high, _ = table[18]
+    yield (f"the exact chance of total 18 is {cut(MOWERS[18] / UNIT, 9)}, and it does lie from {nine_digits(low)} to "
+           f"{nine_digits(high)}.")
+    below = max(bound for *_, bound in table[:8]) < 400_000 <= table[8][3]
+    yield where(below, f"up to total 7 the bounds are below 400000 units, {400_000 / UNIT} of chance.")
+
+
+def growing_nearest():
+    start = UNIT * FIFTH ** 14
+    yield f"begins with {nine_digits(round(start))}, since {float(start)} units round to {round(start)}."
+    yield where(not any(nearest(job("growing.txt"), round(start))), "So are all the others, and the printed chances add up to 0.")
+    yield where(round(UNIT / MOWERS[19]) == 8, f"The exact chance of total 19 is {cut(MOWERS[19] / UNIT, 9)}, about one year in eight.")
+    other = nearest(job("growing.txt"), 1)
+    yield f"to {nine_digits(1)}, total 19 would have {nine_digits(other[19])}, and all chances would add up to {nine_digits(sum(other))}."
+    start = UNIT * FIFTH ** 13
+    thirteen = job("growing.txt", 26)
+    thirteen.b[0] = 14 * 4
+    total = nine_digits(sum(nearest(thirteen, round(start))))
+    yield f"(1/5)^13, or {float(start)} units."
+    yield (f"They add up to {total}. The start {float(start)} is rounded to {round(start)}, so each of them is 1/{float(start)} times too "
+           f"large")
+
+
+def turned_table():
+    yield where(MOWERS == TURNED[::-1], f"So each of 14 mowers misses something with chance {2 * FIFTH}, and then 1 or 2, one as likely as "
+                                        f"the other: again a binomial law, with p below {HALF}.")
+    yield f"for a binomial law with p below {HALF}: the bounds do not go on growing."
+    yield f"One without a claim misses 2, with chance {FIFTH}."
+    (_, none, one, _), (_, low, high, _) = (rows("turned.txt")[total] for total in (0, 28 - 19))
+    yield (f"Total 19 is the same as {28 - 19} missing: from {nine_digits(low)} to {nine_digits(high)}. Write down "
+           f"{both_round_to((low, high), 5)} (both ends round to it)")
+    yield f"at total 0, from {none} to {one} units. Write down {both_round_to((none, one), 8)}."
+
+
+PARTS = [poisson_table, binomial_law, binomial_table, binomial_nearest, group_law, group_table, growing_table, growing_nearest,
+         turned_table]
+
+# An equation in the text, and what a number is that must be worked out somewhere: a fraction, a decimal, or three digits and more.
+EQUATION = re.compile(r"(?<![\w/.])([(\d][\d.()/^× ]*[\d)]) = (\d[\d./]*\d)(\.\.\.)?")
+NUMBER = re.compile(r"-?\d+/\d+|-?\d+\.\d+|\d{3,}")
+# What is no result: the numbers of questions, LAST lines, and what question 1.3 asks for.
+NO_RESULT = re.compile(r"\*\*\d\.\d\*\*|`LAST \d+`|99 years of 100")
+
+
+def comes_out(left, right, dots):
+    """With dots, the digits go on."""
+    if not dots:
+        return evaluate(left) == evaluate(right)
+    return 0 <= evaluate(left) - evaluate(right) < Fraction(1, 10 ** (len(right) - right.index(".") - 1))
+
+
+def faults(text):
+    """What is wrong in the lesson's text, without its blocks and tables and with spaces for line ends."""
+    for part in PARTS:
+        for sentence in part():
+            if sentence not in text:
+                yield f"{part.__name__}: this is not said: {sentence}"
+            text = text.replace(sentence, "")
+    for found in EQUATION.finditer(text):
+        if not comes_out(*found.groups()):
+            yield f"this does not come out: {found[0]}"
+    left = NO_RESULT.sub("", EQUATION.sub("", text))
+    for found in NUMBER.finditer(left):
+        yield f"nothing works out the number {found[0]} in: ..{left[max(0, found.start() - 60):found.end() + 20]}.."
