@@ -93,7 +93,7 @@ wordOf (refuses number line) s = cond (eqb number 24) (faultOn (lineAt line s)) 
 abbrev pub faultyWord : ℕ → List ℕ → List ℕ
 faultyWord places s = wordOf (reading places s) s
 
--- ---- where it stands
+-- ---- where it stands: so many bytes from a place on, which is counted from 0
 abbrev pub partOf : ℕ → ℕ → Part
 partOf start length = record { start = start; length = length }
 
@@ -104,7 +104,8 @@ noPart = partOf 0 0
 abbrev pub bytesOf : Part → List ℕ → List ℕ
 bytesOf part s = take (part .length) (drop (part .start) s)
 
--- the first word that is no number, as a part of its line; the words begin at byte n, with a space after each but the last
+-- the first word that is no number, as a part of its line, and an empty part where each is one; the words begin at byte n, with a space
+-- after each but the last
 unfoldable pub firstPart : Bool → ℕ → List (List ℕ) → Part
 firstPart signs n [] = noPart
 firstPart signs n (w ∷ ws) = cond (isNone (number signs w)) (partOf n (length w)) (firstPart signs (n + length w + 1) ws)
@@ -120,6 +121,7 @@ from n part = partOf (n + part .start) (part .length)
 abbrev pub partAt : ℕ → List ℕ → Part
 partAt n s = from (lineStart n s) (partOn (lineAt n s))
 
+-- with 24 alone there is one
 abbrev pub partIn : Reading → List ℕ → Part
 partIn (reads sheet) s = noPart
 partIn (refuses number line) s = cond (eqb number 24) (partAt line s) noPart

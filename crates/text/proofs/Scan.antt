@@ -93,7 +93,7 @@ module _ (b : ℕ) where
 
 -- ---- where lines begin
 -- what is left of a text is the text from some place on, and its length says from which
-pub left-from : {A : Type 0} (j : ℕ) (s : List A) → drop (length s - length (drop j s)) s ≡ drop j s
+left-from : {A : Type 0} (j : ℕ) (s : List A) → drop (length s - length (drop j s)) s ≡ drop j s
 left-from zero s = ap (λ (k : ℕ). drop k s) (NL.sub-self (length s))
 left-from (suc j) [] = refl
 left-from (suc j) (x ∷ s) = ap (λ (k : ℕ). drop k (x ∷ s)) one-more ∙ left-from j s
@@ -101,6 +101,7 @@ left-from (suc j) (x ∷ s) = ap (λ (k : ℕ). drop k (x ∷ s)) one-more ∙ l
     one-more : suc (length s) - length (drop j s) ≡ suc (length s - length (drop j s))
     one-more = rw (length-drop j s) (omega arith)
 
+-- what follows some line ends is left of the text
 lines-from : (n : ℕ) (s : List ℕ) → (j : ℕ) × (afterLines n s ≡ drop j s)
 unfolding afterLines
 lines-from zero s = (0, refl)
