@@ -12,19 +12,21 @@ NO_JOB = Job(0, 0, [0] * 4, [0] * 4, 0, 0, [], 0)
 
 @dataclass
 class Reading:
-    """What the call says: number 0 for an acceptance, the line, the job (zeros and no weights after a refusal) and the faulty word."""
+    """What the call says: number 0 for an acceptance, the line, the job (zeros and no weights after a refusal), the faulty word and where
+    it begins, counted in bytes from 0."""
     number: int
     line: int
     job: Job
     word: bytes
+    start: int
 
 
 class Refused(Exception):
-    """A refusal by its number and line, and with 24 the faulty word."""
+    """A refusal by its number and line, and with 24 the faulty word and where it begins."""
 
-    def __init__(self, number, line, word=b""):
-        super().__init__(number, line, word)
-        self.number, self.line, self.word = number, line, word
+    def __init__(self, number, line, word=b"", start=0):
+        super().__init__(number, line, word, start)
+        self.number, self.line, self.word, self.start = number, line, word, start
 
 
 class Lines:
@@ -42,10 +44,14 @@ class Lines:
         first, *words = self.ended[self.taken - 1].split(b" ")
         if first != keyword or len(words) != count:
             raise Refused(23, self.taken)
-        for word in words:
+        for i, word in enumerate(words):
             if not pattern.fullmatch(word):
-                raise Refused(24, self.taken, word)
+                raise Refused(24, self.taken, word, self.after([first, *words[:i]]))
         return [int(word) for word in words]
+
+    def after(self, words):
+        """Where the word after these begins, on the line taken last: behind each line before there is one byte, and so behind each word."""
+        return sum(len(piece) + 1 for piece in [*self.ended[:self.taken - 1], *words])
 
     def limit(self, number, least, most):
         """Refusal 25, for a number of the line taken last."""
@@ -80,6 +86,6 @@ def read_job(sheet, places):
 def read_sheet(sheet, places):
     """The call, with the part that the faulty word's own call gives."""
     try:
-        return Reading(0, 0, read_job(sheet, places), b"")
+        return Reading(0, 0, read_job(sheet, places), b"", 0)
     except Refused as refusal:
-        return Reading(refusal.number, refusal.line, NO_JOB, refusal.word)
+        return Reading(refusal.number, refusal.line, NO_JOB, refusal.word, refusal.start)
