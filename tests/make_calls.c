@@ -1,0 +1,115 @@
+/* Makes the calls that tests/make_calls.py writes to standard input, and writes the answers and all rows to standard output. Every row, and
+   every number that is given back, lies in a block of its own that is just as long, so that Valgrind sees each access before or past it. */
+#include <stdio.h>
+#include <stdlib.h>
+
+#include "claimtotals.h"
+
+struct row {
+    void *block;
+    size_t places, bytes;
+};
+
+static void take(void *to, size_t bytes) {
+    if (fread(to, 1, bytes, stdin) != bytes) {
+        fprintf(stderr, "the input ends within a call\n");
+        exit(2);
+    }
+}
+
+static void give(const void *from, size_t bytes) {
+    if (fwrite(from, 1, bytes, stdout) != bytes) {
+        perror("standard output");
+        exit(2);
+    }
+}
+
+static uint64_t number(void) {
+    uint64_t n;
+    take(&n, sizeof n);
+    return n;
+}
+
+static struct row take_row(size_t width) {
+    struct row row;
+    row.places = number();
+    row.bytes = row.places * width;
+    row.block = malloc(row.bytes);
+    if (row.block == NULL) {
+        perror("malloc");
+        exit(2);
+    }
+    take(row.block, row.bytes);
+    return row;
+}
+
+static void give_row(struct row row) {
+    give(row.block, row.bytes);
+    free(row.block);
+}
+
+static void give_rows(const struct row *rows, size_t count) {
+    for (size_t i = 0; i < count; i++) give_row(rows[i]);
+}
+
+static void call_curve(void) {
+    uint64_t order = number(), divisor = number();
+    struct row a = take_row(8), b = take_row(8);
+    uint64_t start_low = number(), start_high = number(), last = number();
+    struct row weights = take_row(8), low = take_row(8), high = take_row(8), bound = take_row(8), work = take_row(8), place = take_row(8);
+    uint64_t answer = claimtotals_curve(order, divisor, a.block, b.block, start_low, start_high, last, weights.block, weights.places,
+                                        low.block, low.places, high.block, high.places, bound.block, bound.places, work.block, work.places,
+                                        place.block);
+    give(&answer, sizeof answer);
+    struct row rows[] = {a, b, weights, low, high, bound, work, place};
+    give_rows(rows, sizeof rows / sizeof *rows);
+}
+
+static void call_read_sheet(void) {
+    struct row sheet = take_row(1), row = take_row(8), line = take_row(8), order = take_row(8), divisor = take_row(8), a = take_row(8);
+    struct row b = take_row(8), start_low = take_row(8), start_high = take_row(8), last = take_row(8), count = take_row(8);
+    uint64_t answer = claimtotals_read_sheet(sheet.block, sheet.places, row.block, row.places, line.block, order.block, divisor.block,
+                                             a.block, b.block, start_low.block, start_high.block, last.block, count.block);
+    give(&answer, sizeof answer);
+    struct row rows[] = {sheet, row, line, order, divisor, a, b, start_low, start_high, last, count};
+    give_rows(rows, sizeof rows / sizeof *rows);
+}
+
+static void call_faulty_word(void) {
+    struct row sheet = take_row(1);
+    size_t places = number();
+    struct row start = take_row(8), length = take_row(8);
+    claimtotals_faulty_word(sheet.block, sheet.places, places, start.block, length.block);
+    uint64_t answer = 0;
+    give(&answer, sizeof answer);
+    struct row rows[] = {sheet, start, length};
+    give_rows(rows, sizeof rows / sizeof *rows);
+}
+
+static void call_quantile(void) {
+    struct row low = take_row(8), high = take_row(8);
+    int64_t level = (int64_t)number();
+    struct row place = take_row(8), sure = take_row(8), possible = take_row(8);
+    uint64_t answer = claimtotals_quantile(low.block, low.places, high.block, high.places, level, place.block, sure.block, possible.block);
+    give(&answer, sizeof answer);
+    struct row rows[] = {low, high, place, sure, possible};
+    give_rows(rows, sizeof rows / sizeof *rows);
+}
+
+int main(void) {
+    for (int which; (which = getchar()) != EOF;) {
+        switch (which) {
+        case 'c': call_curve(); break;
+        case 'r': call_read_sheet(); break;
+        case 'f': call_faulty_word(); break;
+        case 'q': call_quantile(); break;
+        default: fprintf(stderr, "no call has the letter %d\n", which); return 2;
+        }
+        /* at once, so that it can be told which call was the last when Valgrind ends the run */
+        if (fflush(stdout) != 0) {
+            perror("standard output");
+            return 2;
+        }
+    }
+    return 0;
+}

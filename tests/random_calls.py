@@ -1,0 +1,279 @@
+"""Random calls of the library, and what the calculator says to each: its answer, and what every lent place holds afterwards. Every function
+takes its chances from `r`, a random.Random."""
+import re
+from array import array
+from itertools import accumulate
+from typing import NamedTuple
+
+import random_sheets
+from level import level_query
+from outward import UNIT, Job, Lent, curve
+from sheet import read_sheet
+
+LEAST, MOST = -2 ** 63, 2 ** 63 - 1
+HUGE = (2 ** 31, 2 ** 32, 2 ** 32 + 1, 2 ** 63 - 1, 2 ** 63, 2 ** 64 - 1)
+END = 2 * UNIT
+
+SIGNED, UNSIGNED, BYTE = "q", "Q", "B"
+
+
+class Row(NamedTuple):
+    """A row that a call is lent, by its bytes before and after the call. The number of its places is a parameter too where it is told."""
+    kind: str
+    before: bytes
+    after: bytes
+    told: bool
+
+    def places(self):
+        return len(self.before) // array(self.kind).itemsize
+
+
+class Call(NamedTuple):
+    """A call by its name and its parameters, each with a name and a number or a row; the answer (0 for a call that has none), and what
+    the call is counted as."""
+    name: str
+    parameters: list
+    answer: int
+    outcome: object
+
+
+def packed(kind, numbers):
+    return array(kind, numbers).tobytes()
+
+
+def read_only(kind, numbers, told=True):
+    """A row that the call only reads."""
+    content = packed(kind, numbers)
+    return Row(kind, content, content, told)
+
+
+def marks(r, kind, count):
+    """What so many places of a row hold before the call."""
+    return array(kind, r.randbytes(count * array(kind).itemsize)).tolist()
+
+
+def number_row(r, kind, *after):
+    """One number that the call gives back, or the four terms of a law."""
+    return Row(kind, packed(kind, marks(r, kind, len(after))), packed(kind, after), False)
+
+
+# ---- jobs for the curve call
+
+def good_job(r):
+    make = r.choices((random_sheets.named, random_sheets.free, random_sheets.at_edge, random_sheets.wide), (50, 25, 24, 1))[0]
+    parts = make(r)
+    none = [0] * (4 - len(parts.terms))
+    return Job(len(parts.terms), parts.divisor, [a for a, _ in parts.terms] + none, [b for _, b in parts.terms] + none, *parts.start,
+               parts.weights, parts.last)
+
+
+def other_order(r, job):
+    """Often one that leaves terms past it."""
+    job.order = r.choice((0, 0, 1, 2, 3, 4, 5, 5, 6, r.choice(HUGE)))
+
+
+def other_divisor(r, job):
+    job.divisor = r.choice((0, 1, 999, 1000, 1001, 1001, r.choice(HUGE)))
+
+
+def other_term(r, job):
+    terms = r.choice((job.a, job.b))
+    size = r.choice((0, 1, 999, 1000, 1001, 1001, 2 ** 31, 2 ** 32, 2 ** 32 + 1, MOST))
+    terms[r.randrange(4)] = r.choice((size, -size, LEAST))
+
+
+def other_start(r, job):
+    low = r.choice((0, 0, 1, UNIT - 1, UNIT, UNIT + 1, r.choice(HUGE)))
+    job.low_start, job.high_start = low, r.choice((0, 1, low, max(0, low - 1), UNIT, UNIT + 1, r.choice(HUGE)))
+
+
+def other_count(r, job):
+    """No weights, or as many as the limit is, or more; their sum is mostly good."""
+    count = r.choice((0, 0, 499, 500, 501, 501, 502, r.randint(0, 502)))
+    job.weights = (job.weights + [0] * count)[:count]
+
+
+def other_sum(r, job):
+    """At the limits, and such that 64 bits or 32 would take the sum for a good one."""
+    y = r.randrange(len(job.weights)) if job.weights else 0
+    others = sum(job.weights) - sum(job.weights[y:y + 1])
+    aim = r.choice((0, 999, 1000, 1001, 1001, 2 ** 32 + 1))
+    job.weights[y:y + 1] = r.choice((
+        [max(0, aim - others)], [r.choice(HUGE)], [2 ** 64 - 1, 1], [2 ** 64 - 1, 2], [2 ** 63, 2 ** 63], [2 ** 63, 2 ** 63, 5],
+    ))
+    if r.random() < 0.2:
+        job.weights = [r.choice((0, 0, 2 ** 64 - 1))] * len(job.weights)
+
+
+def other_last(r, job):
+    """A great last total is computed for small tables only, as the calculator takes long."""
+    most = 502 if len(job.weights) < 20 else 12
+    job.last = r.choice((0, 1, min(most, 499), min(most, 500), r.randint(0, most), 501, 501, 502, r.choice(HUGE)))
+
+
+CHANGES = (other_order, other_divisor, other_term, other_start, other_count, other_sum, other_last)
+
+
+def row_lengths(r, last):
+    """Of low, high, bound and work: mostly just long enough or longer, or long enough for every job."""
+    if r.random() < 0.05:
+        return 501, 501, 501, 9 * 501
+    totals = min(last, r.choice((500, 510))) + 1
+    needed = [totals, totals, totals, 9 * totals]
+    lengths = [length + r.choice((0, 0, 1, 7)) for length in needed]
+    if r.random() < 0.15:
+        i = r.randrange(4)
+        lengths[i] = r.choice((needed[i] - 1, needed[i] - 1, totals - 1, 0, 1, r.randint(0, needed[i])))
+    return lengths
+
+
+def random_job(r):
+    job = good_job(r)
+    if r.random() < 0.5:
+        for change in r.sample(CHANGES, r.choice((1, 1, 1, 2, 3))):
+            change(r, job)
+    return job
+
+
+def curve_call(r):
+    job = random_job(r)
+    before = [marks(r, SIGNED, length) for length in row_lengths(r, job.last)]
+    lent = Lent(*map(list, before))
+    number, place = curve(job, lent)
+    low, high, bound, work = (Row(SIGNED, packed(SIGNED, held), packed(SIGNED, holds), True)
+                              for held, holds in zip(before, (lent.low, lent.high, lent.bound, lent.work)))
+    return Call("claimtotals_curve", [
+        ("order", job.order), ("divisor", job.divisor), ("a", read_only(SIGNED, job.a, False)), ("b", read_only(SIGNED, job.b, False)),
+        ("start_low", job.low_start), ("start_high", job.high_start), ("last", job.last), ("weights", read_only(UNSIGNED, job.weights)),
+        ("low", low), ("high", high), ("bound", bound), ("work", work), ("place", number_row(r, UNSIGNED, place)),
+    ], number, number)
+
+
+# ---- sheets for the reader
+
+def random_places(r, sheet):
+    """How many places the row for the weights has: often about m."""
+    told = re.search(rb"SEVERITY ([0-9]{1,3})\b", sheet)
+    count = int(told[1]) if told else 0
+    return r.choice((max(0, count - 1), count, count + 1, min(count, 500), 0, 499, 500, 500, 500, 501, r.randint(0, 510)))
+
+
+def reader_call(r):
+    sheet = random_sheets.sheet(r)
+    places = random_places(r, sheet)
+    read = read_sheet(sheet, places)
+    job = read.job
+    before = marks(r, UNSIGNED, places)
+    after = job.weights + before[len(job.weights):]
+    numbers = {"line": read.line, "order": job.order, "divisor": job.divisor, "start_low": job.low_start, "start_high": job.high_start,
+               "last": job.last, "count": len(job.weights)}
+    lent = {name: number_row(r, UNSIGNED, number) for name, number in numbers.items()}
+    lent["a"], lent["b"] = number_row(r, SIGNED, *job.a), number_row(r, SIGNED, *job.b)
+    order = ("line", "order", "divisor", "a", "b", "start_low", "start_high", "last", "count")
+    return Call("claimtotals_read_sheet", [
+        ("sheet", read_only(BYTE, sheet)), ("row", Row(UNSIGNED, packed(UNSIGNED, before), packed(UNSIGNED, after), True)),
+        *((name, lent[name]) for name in order),
+    ], read.number, read.number)
+
+
+def word_call(r):
+    """Mostly on a sheet with a word that is none of its numbers; for any number of places, as no row is lent."""
+    sheet = random_sheets.good(r) if r.random() < 0.7 else random_sheets.sheet(r)
+    if r.random() < 0.8:
+        sheet = random_sheets.change_number(r, sheet)
+    places = r.choice((random_places(r, sheet), 500, r.choice(HUGE)))
+    read = read_sheet(sheet, places)
+    outcome = ("word" if read.word else "empty word") if read.number == 24 else "none"
+    return Call("claimtotals_faulty_word", [
+        ("sheet", read_only(BYTE, sheet)), ("places", places), ("start", number_row(r, UNSIGNED, read.start)),
+        ("length", number_row(r, UNSIGNED, len(read.word))),
+    ], 0, outcome)
+
+
+# ---- rows and levels for the level query
+
+def curve_rows(r):
+    """Lows and highs of a curve, if the job is accepted."""
+    job = good_job(r)
+    job.last = min(job.last, 30)
+    lent = Lent(*([0] * (job.last + 1) for _ in range(3)), [0] * (9 * (job.last + 1)))
+    curve(job, lent)
+    return lent.low, lent.high
+
+
+def spread_rows(r):
+    """Of any length, with lows that come to about U."""
+    count = r.choice((1, 2, r.randint(1, 40), r.randint(1, 501), 500, 501))
+    low = [r.randint(0, 2 * UNIT // count) for _ in range(count)]
+    return low, [entry + r.choice((0, 0, 1, 3)) for entry in low]
+
+
+def signed_rows(r):
+    """Sums that go up and down, with entries at the limits too."""
+    pairs = [sorted(r.choice((-END, END, 0, r.randint(-END, END), r.randint(-9, UNIT))) for _ in "lh") for _ in range(r.randint(1, 60))]
+    return [low for low, _ in pairs], [high for _, high in pairs]
+
+
+def wrong_entry(r, low, high):
+    row = r.choice((low, high))
+    size = r.choice((END - 1, END, END + 1, END + 1, 2 ** 32, MOST))
+    if row:
+        row[r.randrange(len(row))] = r.choice((size, -size, LEAST, MOST, 0))
+
+
+def turned_entry(r, low, high):
+    """A low that is one above its high."""
+    if low and high:
+        x = r.randrange(min(len(low), len(high)))
+        low[x] = min(MOST, high[x] + 1)
+
+
+def other_length(r, low, high):
+    row = r.choice((low, high))
+    row[:] = r.choice((row[:-1], row + [0], [], row * 2))
+
+
+def long_rows(r, low, high):
+    """At the limit and past it, both equally long."""
+    length = r.choice((500, 501, 502, 503))
+    for row in low, high:
+        row[:] = (row + [r.choice((0, 0, 1))] * length)[:length]
+
+
+def no_rows(_, low, high):
+    low.clear()
+    high.clear()
+
+
+def random_level(r, low, high):
+    """Often a sum of the rows, or next to one."""
+    sums = [total for row in (low, high) for total in accumulate(row) if 1 <= total <= UNIT]
+    if sums and r.random() < 0.7:
+        return r.choice(sums) + r.choice((-1, 0, 0, 1))
+    return r.choice((0, 1, UNIT - 1, UNIT, UNIT + 1, -1, r.choice((LEAST, MOST, 2 ** 32 + 1)), r.randint(1, UNIT), r.randint(1, UNIT)))
+
+
+def level_call(r):
+    low, high = r.choice((curve_rows, spread_rows, signed_rows))(r)
+    level = random_level(r, low, high)
+    if r.random() < 0.4:
+        for _ in range(r.choice((1, 1, 2))):
+            r.choice((wrong_entry, wrong_entry, wrong_entry, turned_entry, turned_entry, other_length, long_rows, no_rows))(r, low, high)
+    said = level_query(low, high, level)
+    return Call("claimtotals_quantile", [
+        ("low", read_only(SIGNED, low)), ("high", read_only(SIGNED, high)), ("level", level),
+        *((name, number_row(r, UNSIGNED, getattr(said, name))) for name in ("place", "sure", "possible")),
+    ], said.number, said.number)
+
+
+def call(r):
+    return r.choices((curve_call, reader_call, word_call, level_call), (40, 20, 15, 25))[0](r)
+
+
+# What each call can be answered, 0 for an acceptance.
+CAN_ARISE = {
+    "claimtotals_curve": [0, 1, 2, 3, 4, 5, 6, 7, 8, 9, 10],
+    "claimtotals_read_sheet": [0, 21, 22, 23, 24, 25, 26, 27],
+    "claimtotals_faulty_word": ["none", "word", "empty word"],
+    "claimtotals_quantile": [0, 31, 32, 33, 34],
+}
