@@ -9,7 +9,7 @@
 
    What the caller owes: a pointer is not null and is aligned for its type; a row has as many places as the number after it says (a row of 0
    places is allowed); what a call writes to overlaps nothing else that it is given; and no other thread writes to any of it during the
-   call. The calls keep no state, allocate nothing, and may run in several threads at once. Each needs less than 8 kB of stack. */
+   call. The calls keep no state, allocate nothing, and may run in several threads at once. Each needs less than 16 kB of stack. */
 
 #ifndef CLAIMTOTALS_H
 #define CLAIMTOTALS_H
