@@ -10,7 +10,7 @@ use model::Start;
 use model::is_outside;
 ghost use mathlib.Core.Path.{_≡_};
 ghost use mathlib.Core.Bool.{_||_};
-ghost use Prim.Native.Nat.{_+_, _*_, _≤_, min};
+ghost use Prim.Native.Nat.{_≤_, min};
 ghost use lib.IntN.{pos};
 ghost use Rattle.algebra.specs.Smallest.{smallest};
 ghost use Rattle.exact.specs.Severity.{totalWeight};
@@ -58,24 +58,17 @@ fn is_wrong_start(start: Start) -> bool
     start.high < start.low || is_outside(1, UNIT, start.high)
 }
 
-fn capped_sum(total: u64, weight: u64) -> u64
-    requires { ⌜ total ≤ 1001 ⌝ }
-    ensures { λ r. ⌜ r ≡ min (total + weight) 1001 ⌝ }
-{
-    if WEIGHT_CAP - total < weight {
-        WEIGHT_CAP
-    } else {
-        total + weight
-    }
-}
-
 // The sum of the weights, as far as the cap: it does not overflow whatever the weights are.
 pub fn total_weight(weights: &[u64]) -> u64
     ensures { λ r. ⌜ r ≡ min (totalWeight (now (weights .entry))) 1001 ⌝ }
 {
     let mut total = 0;
     for i in 0..weights.len() {
-        total = capped_sum(total, weights[i]);
+        let weight = weights[i];
+        if WEIGHT_CAP - total < weight {
+            return WEIGHT_CAP;
+        }
+        total += weight;
     }
     total
 }

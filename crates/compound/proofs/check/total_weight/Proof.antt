@@ -1,9 +1,10 @@
 -- The loop's invariant: the weights still to come bring the total to the capped sum of all.
 use borrow.Author.Needs.{needs}
 use mathlib.Core.Path.{_≡_, ap, _∙_}
+use mathlib.Core.List.{List}
 use Prim.Native.Nat.{ℕ, _+_, _-_, _≤_, min}
 use native.Mathlib.Omega.{arith}
-use lib.ListN.{length, drop}
+use lib.ListN.{length, drop, getD}
 use lib.Seq.{drop-length}
 use Rattle.algebra.proofs.Slice.{drop-next}
 use Rattle.exact.specs.Severity.{totalWeight}
@@ -20,17 +21,27 @@ abbrev μ-loop : tie.MeasureT-loop
 loop-holds : tie.Need-loop-holds Inv-loop μ-loop
 loop-holds c = (search needs, search needs, omega arith)
 
-loop-again : tie.Need-loop-again Inv-loop μ-loop
-loop-again c =
-    let loop = c .before .before .before .loop in
-    let weights = c .before .before .before .before .before .args .weights .now in
-    let next = ap totalWeight (drop-next weights (loop .i) 0 (search needs)) in
-    (search needs, omega (arith, c .capped-sum .ensures), omega (arith, c .capped-sum .ensures, loop .inv .2, next))
+-- the weight at hand is the first of those still to come
+module _ (c : tie.After-shared-slice-known Inv-loop μ-loop) where
+  abbrev at : tie.At-loop Inv-loop μ-loop
+  at = c .before .before
+
+  abbrev weights : List ℕ
+  weights = at .before .args .weights .now
+
+  next : totalWeight (drop (at .loop .i) weights) ≡ getD weights (at .loop .i) 0 + totalWeight (drop (at .loop .i + 1) weights)
+  next = ap totalWeight (drop-next weights (at .loop .i) 0 (search needs))
 
 returns : tie.Need-returns Inv-loop μ-loop
-returns c =
+returns c = omega (arith, at (c .before) .loop .inv .2, next (c .before))
+
+loop-again : tie.Need-loop-again Inv-loop μ-loop
+loop-again c = (search needs, omega arith, omega (arith, at (c .before) .loop .inv .2, next (c .before)))
+
+returns-2 : tie.Need-returns-2 Inv-loop μ-loop
+returns-2 c =
     let loop = c .before .loop in
-    let weights = c .before .before .before .args .weights .now in
+    let weights = c .before .before .args .weights .now in
     let end : loop .i ≡ length weights = omega arith in
     let none = ap (λ (k : ℕ). totalWeight (drop k weights)) end ∙ ap totalWeight (drop-length weights) in
     omega (arith, loop .inv .1, loop .inv .2, none)
@@ -44,8 +55,10 @@ total-weight-spec =
     loop-holds
     (λ c. search needs)
     (λ c. search needs)
-    (λ c κs. search needs)
+    (λ c. search needs)
+    returns
+    (λ c. search needs)
     (λ c. search needs)
     (λ c. search needs)
     loop-again
-    returns)
+    returns-2)
