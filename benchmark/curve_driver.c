@@ -1,57 +1,129 @@
-// Runs the proved curve call and the plain one on the same job: `curve WHICH TIMES ORDER`, with WHICH as in timing.h. `both` first compares
-// what they answer and write.
-#include <stdint.h>
+// Runs the proved curve call and the plain one on the job of a sheet: `curve WHICH TIMES SHEET`, with WHICH as in timing.h. `time` first
+// compares what they answer and every place that they leave, on this job and on jobs made from it, of which each refusal has one or more.
+#include <stdbool.h>
 #include <stdio.h>
 #include <stdlib.h>
 #include <string.h>
 
+#include "claimtotals.h"
 #include "plain.h"
 #include "timing.h"
 
-enum { LAST = 500, PLACES = LAST + 1, SEVERITIES = 500 };
+enum { MOST_BYTES = 16384, REFUSALS = 10 };
 
-uint64_t proved_curve(uint64_t order, uint64_t divisor, const int64_t terms[8], uint64_t start_low, uint64_t start_high, uint64_t last,
-                      const uint64_t *weights, size_t weights_len, int64_t *low, size_t low_len, int64_t *high, size_t high_len,
-                      int64_t *bound, size_t bound_len, int64_t *work, size_t work_len);
-
+// what a call is given, but for its rows
 typedef struct {
-    uint64_t answer;
-    int64_t low[PLACES], high[PLACES], bound[PLACES], work[9 * PLACES];
-} Rows;
+    uint64_t order, divisor;
+    int64_t a[4], b[4];
+    uint64_t start_low, start_high, last, weights[CLAIMTOTALS_WEIGHTS + 1];
+    size_t count, low_length, high_length, bound_length, work_length;
+} Job;
 
-static PlainJob job = {0, 1000, {0}, {0}, 400000000, 400000001, LAST};
-static uint64_t weights[SEVERITIES];
-static Rows proved, plain;
+// what a call answers and leaves in its rows
+typedef struct {
+    uint64_t number;
+    size_t place;
+    int64_t low[CLAIMTOTALS_TOTALS], high[CLAIMTOTALS_TOTALS], bound[CLAIMTOTALS_TOTALS], work[CLAIMTOTALS_WORK];
+} Answer;
+
+static Job job;
+static Answer proved, plain;
 
 static void call_proved(void) {
-    int64_t terms[8];
-    memcpy(terms, job.a, sizeof job.a);
-    memcpy(terms + 4, job.b, sizeof job.b);
-    proved.answer = proved_curve(job.order, job.divisor, terms, job.low, job.high, job.last, weights, SEVERITIES, proved.low, PLACES,
-                                 proved.high, PLACES, proved.bound, PLACES, proved.work, 9 * PLACES);
+    proved.number = claimtotals_curve(job.order, job.divisor, job.a, job.b, job.start_low, job.start_high, job.last, job.weights, job.count,
+                                      proved.low, job.low_length, proved.high, job.high_length, proved.bound, job.bound_length, proved.work,
+                                      job.work_length, &proved.place);
 }
 
-static void call_plain(void) { plain.answer = plain_curve(&job, weights, SEVERITIES, plain.low, plain.high, plain.bound, plain.work); }
+static void call_plain(void) {
+    plain.number = plain_curve(job.order, job.divisor, job.a, job.b, job.start_low, job.start_high, job.last, job.weights, job.count,
+                               plain.low, job.low_length, plain.high, job.high_length, plain.bound, job.bound_length, plain.work,
+                               job.work_length, &plain.place);
+}
+
+static void fail(const char *why) {
+    fprintf(stderr, "curve: %s\n", why);
+    exit(1);
+}
+
+static uint64_t compare(void) {
+    memset(&proved, 0x55, sizeof proved);
+    memset(&plain, 0x55, sizeof plain);
+    call_proved();
+    call_plain();
+    if (memcmp(&proved, &plain, sizeof proved) != 0) fail("the answers or the rows differ");
+    if (proved.number > REFUSALS) fail("there is no such refusal");
+    return proved.number;
+}
+
+// a law of order 1 with claims of one size, which makes (a + b/x) times the amount before of an amount
+static void one_term(int64_t a, int64_t b) {
+    memset(job.a, 0, sizeof job.a);
+    memset(job.b, 0, sizeof job.b);
+    job.order = job.divisor = job.count = 1;
+    job.a[0] = a;
+    job.b[0] = b;
+}
+
+// compares on the sheet's job with a change
+#define WITH(change)            \
+    do {                        \
+        job = given;            \
+        change;                 \
+        met[compare()] = true;  \
+    } while (0)
+
+static void compare_all(void) {
+    const Job given = job;
+    const uint64_t unit = CLAIMTOTALS_UNIT;
+    bool met[REFUSALS + 1] = {false};
+    if (compare() != 0) fail("the sheet's job is refused");
+    for (uint64_t k = 0; k <= 5; k++) WITH(job.order = k);
+    for (uint64_t x = 0; x <= 501; x++) WITH(job.last = x);
+    for (size_t m = 0; m <= 501; m++) WITH(job.count = m);
+    for (int i = 0; i < 4; i++) {
+        for (int64_t z = -1001; z <= 1001; z += 1001) {
+            WITH(job.a[i] = z);
+            WITH(job.b[i] = z);
+        }
+    }
+    WITH(job.divisor = 0);
+    WITH(job.divisor = 1001);
+    WITH(job.start_high = job.start_low - 1);
+    WITH(job.start_low = job.start_high = 0);
+    WITH(job.start_high = unit + 1);
+    WITH(memset(job.weights, 0, sizeof job.weights));
+    WITH(job.weights[0] = 1001);
+    WITH(job.weights[0] = UINT64_MAX);
+    WITH(job.low_length = job.last);
+    WITH(job.high_length = job.last);
+    WITH(job.bound_length = job.last);
+    WITH(job.work_length = 9 * job.last + 8);
+    WITH((one_term(0, 1), job.start_low = 0, job.start_high = unit));
+    WITH(one_term(-1, 0));
+    WITH(one_term(-2, 0));
+    for (size_t number = 0; number <= REFUSALS; number++)
+        if (!met[number]) fail("a refusal was not met");
+    job = given;
+}
+
+static void read_job(const char *path) {
+    static uint8_t sheet[MOST_BYTES];
+    FILE *file = fopen(path, "rb");
+    if (file == NULL) fail("there is no such sheet");
+    size_t length = fread(sheet, 1, sizeof sheet, file), line;
+    fclose(file);
+    if (claimtotals_read_sheet(sheet, length, job.weights, CLAIMTOTALS_WEIGHTS, &line, &job.order, &job.divisor, job.a, job.b,
+                               &job.start_low, &job.start_high, &job.last, &job.count) != 0)
+        fail("the sheet is refused");
+    job.low_length = job.high_length = job.bound_length = CLAIMTOTALS_TOTALS;
+    job.work_length = CLAIMTOTALS_WORK;
+}
 
 int main(int argc, char **argv) {
     if (argc != 4) return 2;
-    job.order = (uint64_t)atol(argv[3]);
-    // light terms of both signs, so that every total is reached
-    for (uint64_t i = 0; i < job.order; i++) {
-        job.a[i] = i % 2 ? -20 : 30;
-        job.b[i] = i % 2 ? 40 : -10;
-    }
-    for (size_t y = 0; y < SEVERITIES; y++) weights[y] = 1 + y % 3;
-    if (strcmp(argv[1], "both") == 0) {
-        call_proved();
-        call_plain();
-        if (proved.answer != 0 || memcmp(&proved, &plain, sizeof proved) != 0) {
-            puts("the answers or the rows differ");
-            return 1;
-        }
-    }
-    char title[80];
-    snprintf(title, sizeof title, "curve, k = %s, m = %d, X = %d", argv[3], SEVERITIES, LAST);
-    run_calls(title, argv[1], atol(argv[2]), call_proved, call_plain);
+    read_job(argv[3]);
+    if (strcmp(argv[1], "time") == 0) compare_all();
+    run_calls(argv[1], atol(argv[2]), 1, call_proved, call_plain);
     return 0;
 }

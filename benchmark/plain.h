@@ -1,26 +1,19 @@
-// What the plain C versions take and give.
+// The plain C versions of the library's calls, each with the parameters, the refusals and the answers of its namesake in claimtotals.h.
+#ifndef PLAIN_H
+#define PLAIN_H
+
 #include <stddef.h>
 #include <stdint.h>
 
-typedef struct {
-    uint64_t order, divisor;
-    int64_t a[4], b[4];
-    uint64_t low, high, last;
-} PlainJob;
+uint64_t plain_curve(uint64_t order, uint64_t divisor, const int64_t a[4], const int64_t b[4], uint64_t start_low, uint64_t start_high,
+                     uint64_t last, const uint64_t *weights, size_t weights_length, int64_t *low, size_t low_length, int64_t *high,
+                     size_t high_length, int64_t *bound, size_t bound_length, int64_t *work, size_t work_length, size_t *place);
 
-uint64_t plain_curve(const PlainJob *job, const uint64_t *weights, size_t m, int64_t *low, int64_t *high, int64_t *bound, int64_t *work);
+uint64_t plain_read_sheet(const uint8_t *sheet, size_t sheet_length, uint64_t *row, size_t row_length, size_t *line, uint64_t *order,
+                          uint64_t *divisor, int64_t a[4], int64_t b[4], uint64_t *start_low, uint64_t *start_high, uint64_t *last,
+                          size_t *count);
 
-// `number` is 0 for an acceptance. After a refusal all but `number` and `line` is 0.
-typedef struct {
-    uint64_t number, line, count;
-    PlainJob job;
-} PlainSheet;
+uint64_t plain_quantile(const int64_t *low, size_t low_length, const int64_t *high, size_t high_length, int64_t level, size_t *place,
+                        size_t *sure, size_t *possible);
 
-PlainSheet plain_reader(const uint8_t *sheet, size_t length, uint64_t *row, size_t places);
-
-// `number` is 0 for an acceptance. After a refusal both totals are 0.
-typedef struct {
-    uint64_t number, place, sure, possible;
-} PlainTotals;
-
-PlainTotals plain_level(const int64_t *low, size_t low_len, const int64_t *high, size_t high_len, int64_t level);
+#endif

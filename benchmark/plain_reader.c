@@ -1,8 +1,6 @@
 // The sheet reader in plain C: one pass over the bytes, with no proof. A line that is not as it should be is looked at once more, for the
 // number of its refusal.
 #include <stdbool.h>
-#include <stddef.h>
-#include <stdint.h>
 #include <string.h>
 
 #include "plain.h"
@@ -12,8 +10,16 @@ enum { MOST_BYTES = 16384, MOST_WEIGHTS = 500 };
 // the next byte to read, the end of the sheet, and the number of the line read last
 typedef struct {
     const uint8_t *at, *end;
-    uint64_t line;
+    size_t line;
 } Cursor;
+
+// the numbers of a sheet but for its weights
+typedef struct {
+    uint64_t order, divisor;
+    int64_t a[4], b[4];
+    uint64_t low, high, last;
+    size_t count;
+} Sheet;
 
 // why the line at `p` is refused
 static uint64_t fault(const uint8_t *p, const uint8_t *end, const char *keyword, size_t count) {
@@ -54,26 +60,26 @@ static uint64_t read_line(Cursor *c, const char *keyword, size_t count, bool sig
 }
 
 // the lines in order; 0 or the number of a refusal
-static uint64_t read_lines(Cursor *c, PlainSheet *s, uint64_t *row, size_t places) {
+static uint64_t read_lines(Cursor *c, Sheet *s, uint64_t *row, size_t places) {
     int64_t n[2];
     uint64_t weights[MOST_WEIGHTS], number;
     if ((number = read_line(c, "LAW", 2, false, n)) != 0) return number;
     if (n[0] < 1 || 4 < n[0]) return 25;
-    s->job.order = (uint64_t)n[0];
-    s->job.divisor = (uint64_t)n[1];
-    for (size_t i = 0; i < s->job.order; i++) {
+    s->order = (uint64_t)n[0];
+    s->divisor = (uint64_t)n[1];
+    for (size_t i = 0; i < s->order; i++) {
         if ((number = read_line(c, "TERM", 2, true, n)) != 0) return number;
-        s->job.a[i] = n[0];
-        s->job.b[i] = n[1];
+        s->a[i] = n[0];
+        s->b[i] = n[1];
     }
     if ((number = read_line(c, "START", 2, false, n)) != 0) return number;
-    s->job.low = (uint64_t)n[0];
-    s->job.high = (uint64_t)n[1];
+    s->low = (uint64_t)n[0];
+    s->high = (uint64_t)n[1];
     if ((number = read_line(c, "LAST", 1, false, n)) != 0) return number;
-    s->job.last = (uint64_t)n[0];
+    s->last = (uint64_t)n[0];
     if ((number = read_line(c, "SEVERITY", 1, false, n)) != 0) return number;
     if (n[0] < 1 || MOST_WEIGHTS < n[0]) return 25;
-    s->count = (uint64_t)n[0];
+    s->count = (size_t)n[0];
     if (places < s->count) return 27;
     for (size_t i = 0; i < s->count; i++) {
         if ((number = read_line(c, "W", 1, false, n)) != 0) return number;
@@ -87,10 +93,22 @@ static uint64_t read_lines(Cursor *c, PlainSheet *s, uint64_t *row, size_t place
     return 0;
 }
 
-PlainSheet plain_reader(const uint8_t *sheet, size_t length, uint64_t *row, size_t places) {
-    if (length < 1 || MOST_BYTES < length) return (PlainSheet){.number = 21};
-    Cursor c = {sheet, sheet + length, 0};
-    PlainSheet s = {0};
-    uint64_t number = read_lines(&c, &s, row, places);
-    return number == 0 ? s : (PlainSheet){.number = number, .line = c.line};
+uint64_t plain_read_sheet(const uint8_t *sheet, size_t sheet_length, uint64_t *row, size_t row_length, size_t *line, uint64_t *order,
+                          uint64_t *divisor, int64_t a[4], int64_t b[4], uint64_t *start_low, uint64_t *start_high, uint64_t *last,
+                          size_t *count) {
+    const Sheet none = {0};
+    Sheet s = none;
+    Cursor c = {sheet, sheet + sheet_length, 0};
+    uint64_t number = sheet_length < 1 || MOST_BYTES < sheet_length ? 21 : read_lines(&c, &s, row, row_length);
+    *line = number == 0 ? 0 : c.line;
+    if (number != 0) s = none;
+    *order = s.order;
+    *divisor = s.divisor;
+    memcpy(a, s.a, sizeof s.a);
+    memcpy(b, s.b, sizeof s.b);
+    *start_low = s.low;
+    *start_high = s.high;
+    *last = s.last;
+    *count = s.count;
+    return number;
 }

@@ -1,20 +1,22 @@
-// Runs the proved sheet reader and the plain one on a good sheet, of order 1 with 500 weights from 0 to 1000: `reader WHICH TIMES`, with
-// WHICH as in timing.h. `both` first compares what they answer and write, on good sheets of order 1 to 4 and on damaged ones.
-#include <stdint.h>
+// Runs the proved sheet reader and the plain one on a good sheet, of order 1 with 500 weights from 0 to 1,000: `reader WHICH TIMES`, with
+// WHICH as in timing.h. `time` first compares what they answer and every place that they leave, on good sheets of order 1 to 4 and on
+// damaged ones.
 #include <stdio.h>
 #include <stdlib.h>
 #include <string.h>
 
+#include "claimtotals.h"
 #include "plain.h"
 #include "timing.h"
 
-enum { WEIGHTS = 500, PLACES = WEIGHTS + 1, TOO_LONG = 16385 };
+enum { WEIGHTS = CLAIMTOTALS_WEIGHTS, PLACES = WEIGHTS + 1, TOO_LONG = 16385, BATCH = 10 };
 
-void proved_reader(const uint8_t *sheet, size_t length, uint64_t *row, size_t places, uint64_t answer[2], uint64_t numbers[6],
-                   int64_t terms[8]);
-
+// what a call answers and leaves in its row
 typedef struct {
-    PlainSheet said;
+    uint64_t number;
+    size_t line, count;
+    uint64_t order, divisor, start_low, start_high, last;
+    int64_t a[4], b[4];
     uint64_t row[PLACES];
 } Reading;
 
@@ -26,14 +28,16 @@ static char good[TOO_LONG], damaged[TOO_LONG];
 static Reading proved, plain;
 
 static void call_proved(void) {
-    uint64_t answer[2], n[6];
-    int64_t t[8];
-    proved_reader((const uint8_t *)sheet, length, proved.row, places, answer, n, t);
-    PlainJob job = {n[0], n[1], {t[0], t[1], t[2], t[3]}, {t[4], t[5], t[6], t[7]}, n[2], n[3], n[4]};
-    proved.said = (PlainSheet){answer[0], answer[1], n[5], job};
+    Reading *r = &proved;
+    r->number = claimtotals_read_sheet((const uint8_t *)sheet, length, r->row, places, &r->line, &r->order, &r->divisor, r->a, r->b,
+                                       &r->start_low, &r->start_high, &r->last, &r->count);
 }
 
-static void call_plain(void) { plain.said = plain_reader((const uint8_t *)sheet, length, plain.row, places); }
+static void call_plain(void) {
+    Reading *r = &plain;
+    r->number = plain_read_sheet((const uint8_t *)sheet, length, r->row, places, &r->line, &r->order, &r->divisor, r->a, r->b,
+                                 &r->start_low, &r->start_high, &r->last, &r->count);
+}
 
 static void make_good(int order) {
     char *p = good + sprintf(good, "LAW %d 1000\n", order);
@@ -51,13 +55,13 @@ static void make_good(int order) {
 }
 
 static void compare(void) {
-    memset(proved.row, 0x55, sizeof proved.row);
-    memset(plain.row, 0x55, sizeof plain.row);
+    memset(&proved, 0x55, sizeof proved);
+    memset(&plain, 0x55, sizeof plain);
     call_proved();
     call_plain();
     if (memcmp(&proved, &plain, sizeof proved) == 0) return;
-    printf("the answers or the rows differ: proved %lu at line %lu, plain C %lu at line %lu\n", (unsigned long)proved.said.number,
-           (unsigned long)proved.said.line, (unsigned long)plain.said.number, (unsigned long)plain.said.line);
+    fprintf(stderr, "reader: the answers or the rows differ: proved %lu at line %zu, plain C %lu at line %zu\n",
+            (unsigned long)proved.number, proved.line, (unsigned long)plain.number, plain.line);
     exit(1);
 }
 
@@ -84,8 +88,8 @@ static void compare_all(void) {
     for (int order = 1; order <= 4; order++) {
         make_good(order);
         compare();
-        if (proved.said.number != 0) {
-            puts("the good sheet is refused");
+        if (proved.number != 0) {
+            fputs("reader: the good sheet is refused\n", stderr);
             exit(1);
         }
         for (size_t n = length, at = 0; at <= n; at++) compare_damaged(n, at);
@@ -99,10 +103,8 @@ static void compare_all(void) {
 
 int main(int argc, char **argv) {
     if (argc != 3) return 2;
-    if (strcmp(argv[1], "both") == 0) compare_all();
+    if (strcmp(argv[1], "time") == 0) compare_all();
     make_good(1);
-    char title[80];
-    snprintf(title, sizeof title, "reader, m = %d, %zu bytes", WEIGHTS, length);
-    run_calls(title, argv[1], atol(argv[2]), call_proved, call_plain);
+    run_calls(argv[1], atol(argv[2]), BATCH, call_proved, call_plain);
     return 0;
 }

@@ -1,31 +1,34 @@
-// Runs the proved level query and the plain one on rows of 501 places, where both totals are the last: `level WHICH TIMES`, with WHICH as
-// in timing.h. `both` first compares what they answer, on these rows with other lengths or changed at one place, at several levels.
-#include <stdint.h>
+// Runs the proved level query and the plain one on rows of 501 places, where both totals are the last: `quantile WHICH TIMES`, with WHICH
+// as in timing.h. `time` first compares what they answer, on these rows with other lengths or changed at one place, at several levels.
 #include <stdio.h>
 #include <stdlib.h>
 #include <string.h>
 
+#include "claimtotals.h"
 #include "plain.h"
 #include "timing.h"
 
-enum { PLACES = 501 };
+enum { PLACES = CLAIMTOTALS_TOTALS, BATCH = 100 };
 
-void proved_level(const int64_t *low, size_t low_len, const int64_t *high, size_t high_len, int64_t level, uint64_t answer[4]);
+static const int64_t UNIT = CLAIMTOTALS_UNIT;
 
-static const int64_t UNIT = 1000000000;
+typedef struct {
+    uint64_t number;
+    size_t place, sure, possible;
+} Answer;
 
 // what the next call asks
 static int64_t low[PLACES + 1], high[PLACES + 1], level;
-static size_t low_len, high_len;
-static PlainTotals proved, plain;
+static size_t low_length, high_length;
+static Answer proved, plain;
 
 static void call_proved(void) {
-    uint64_t answer[4];
-    proved_level(low, low_len, high, high_len, level, answer);
-    proved = (PlainTotals){answer[0], answer[1], answer[2], answer[3]};
+    proved.number = claimtotals_quantile(low, low_length, high, high_length, level, &proved.place, &proved.sure, &proved.possible);
 }
 
-static void call_plain(void) { plain = plain_level(low, low_len, high, high_len, level); }
+static void call_plain(void) {
+    plain.number = plain_quantile(low, low_length, high, high_length, level, &plain.place, &plain.sure, &plain.possible);
+}
 
 // the lows and the highs reach the level with their last entries
 static void make_rows(void) {
@@ -35,15 +38,17 @@ static void make_rows(void) {
     }
     low[PLACES - 1] = high[PLACES - 1] = UNIT;
     level = UNIT / 2;
-    low_len = high_len = PLACES;
+    low_length = high_length = PLACES;
 }
 
-static void print(const char *which, PlainTotals said) {
-    printf("the answers differ: %s %lu at %lu, totals %lu and %lu\n", which, (unsigned long)said.number, (unsigned long)said.place,
-           (unsigned long)said.sure, (unsigned long)said.possible);
+static void print(const char *which, Answer said) {
+    fprintf(stderr, "quantile: the answers differ: %s %lu at %zu, totals %zu and %zu\n", which, (unsigned long)said.number, said.place,
+            said.sure, said.possible);
 }
 
 static void compare(void) {
+    memset(&proved, 0x55, sizeof proved);
+    memset(&plain, 0x55, sizeof plain);
     call_proved();
     call_plain();
     if (memcmp(&proved, &plain, sizeof proved) == 0) return;
@@ -59,11 +64,11 @@ static void compare_all(void) {
     make_rows();
     compare();
     if (proved.number != 0 || proved.sure != PLACES - 1 || proved.possible != PLACES - 1) {
-        puts("the good rows are refused, or reach the level early");
+        fputs("quantile: the good rows are refused, or reach the level early\n", stderr);
         exit(1);
     }
-    for (low_len = 0; low_len <= PLACES + 1; low_len++) {
-        for (high_len = low_len ? low_len - 1 : 0; high_len <= low_len + 1 && high_len <= PLACES + 1; high_len++) {
+    for (low_length = 0; low_length <= PLACES + 1; low_length++) {
+        for (high_length = low_length ? low_length - 1 : 0; high_length <= low_length + 1 && high_length <= PLACES + 1; high_length++) {
             for (size_t i = 0; i < level_count; i++) {
                 level = levels[i];
                 compare();
@@ -83,10 +88,8 @@ static void compare_all(void) {
 
 int main(int argc, char **argv) {
     if (argc != 3) return 2;
-    if (strcmp(argv[1], "both") == 0) compare_all();
+    if (strcmp(argv[1], "time") == 0) compare_all();
     make_rows();
-    char title[80];
-    snprintf(title, sizeof title, "level query, %d places", PLACES);
-    run_calls(title, argv[1], atol(argv[2]), call_proved, call_plain);
+    run_calls(argv[1], atol(argv[2]), BATCH, call_proved, call_plain);
     return 0;
 }
