@@ -56,7 +56,7 @@ static uint64_t compare(void) {
     return proved.number;
 }
 
-// a law of order 1 with claims of one size, which makes (a + b/x) times the amount before of an amount
+// a law of order 1 and claims of size 1, by which the amount at x is (a + b/x) times the one before
 static void one_term(int64_t a, int64_t b) {
     memset(job.a, 0, sizeof job.a);
     memset(job.b, 0, sizeof job.b);
@@ -66,11 +66,11 @@ static void one_term(int64_t a, int64_t b) {
 }
 
 // compares on the sheet's job with a change
-#define WITH(change)            \
-    do {                        \
-        job = given;            \
-        change;                 \
-        met[compare()] = true;  \
+#define WITH(change)           \
+    do {                       \
+        job = given;           \
+        change;                \
+        met[compare()] = true; \
     } while (0)
 
 static void compare_all(void) {
