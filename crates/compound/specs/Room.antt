@@ -12,11 +12,18 @@ use Rattle.model.specs.declared.Law.{Law}
 use Rattle.model.specs.Answer.{isAccepted, firstOf}
 use Rattle.enclosure.specs.declared.Entry.{Entry}
 use Rattle.enclosure.specs.declared.term.Factor.{Factor}
+use Rattle.compound.specs.declared.Reason.{Reason}
+use Rattle.compound.specs.declared.CurveAnswer.the-variants.{Refused}
+use Rattle.compound.specs.declared.check.Checked.{Checked}
 use Rattle.compound.specs.declared.fill.Faults.{Faults}
 use Rattle.enclosure.specs.Entry.{unit, outOfRange, boundTooLarge}
 use Rattle.enclosure.specs.Term.{Small, entryOf}
 use Rattle.compound.specs.Curve.{Rows, entryAt, curveRows}
 use Rattle.compound.specs.Call.{Lent, workPlaces, anyRow, faults}
+
+-- ---- what the checks hand on
+abbrev pub refusedBy : Reason → ℕ → Checked
+refusedBy reason place = record { answer = Refused reason place; total = 0 }
 
 -- ---- a job that passed the checks
 -- what checks 1 to 3 leave of its law

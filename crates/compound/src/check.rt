@@ -9,20 +9,27 @@ use model::Law;
 use model::Start;
 use model::is_outside;
 ghost use mathlib.Core.Path.{_≡_};
-ghost use mathlib.Core.Bool.{_||_};
+ghost use mathlib.Core.Bool.{true, _||_};
 ghost use Prim.Native.Nat.{_≤_, min};
 ghost use lib.IntN.{pos};
 ghost use Rattle.algebra.specs.Smallest.{smallest};
 ghost use Rattle.exact.specs.Severity.{totalWeight};
-ghost use Rattle.model.specs.Answer.{firstOf};
+ghost use Rattle.model.specs.Answer.{isAccepted, firstOf};
 ghost use Rattle.enclosure.specs.Entry.{beyond};
 ghost use Rattle.compound.specs.Call.{termLimit, wrongTerm, wrongStart, tooShort, paper, checks, lentRows};
+ghost use Rattle.compound.specs.Room.{refusedBy};
 
 // U, which stands for chance 1.
 const UNIT: u64 = 1_000_000_000;
 
 // The largest sum of weights that is told apart: one more than a table may have.
 const WEIGHT_CAP: u64 = 1001;
+
+// What the checks found: their answer, and after an acceptance the sum of the weights.
+pub struct Checked {
+    pub answer: CurveAnswer,
+    pub total: u64,
+}
 
 // The size that the numbers of term `i` + 1 may have: a term past the order is zero.
 fn term_limit(order: u64, i: usize) -> i64
@@ -59,7 +66,7 @@ fn is_wrong_start(start: Start) -> bool
 }
 
 // The sum of the weights, as far as the cap: it does not overflow whatever the weights are.
-pub fn total_weight(weights: &[u64]) -> u64
+fn total_weight(weights: &[u64]) -> u64
     ensures { λ r. ⌜ r ≡ min (totalWeight (now (weights .entry))) 1001 ⌝ }
 {
     let mut total = 0;
@@ -89,6 +96,15 @@ fn is_too_short(places: usize, low: &[i64], high: &[i64], bound: &[i64], work: &
     work.len() < WORK_COLUMNS * places
 }
 
+fn refused(reason: Reason, place: usize) -> Checked
+    ensures { λ r. ⌜ r ≡ refusedBy reason place ⌝ }
+{
+    Checked {
+        answer: CurveAnswer::Refused(reason, place),
+        total: 0,
+    }
+}
+
 // The first condition of the list that holds.
 pub fn check(
     job: Job,
@@ -97,35 +113,40 @@ pub fn check(
     high: &[i64],
     bound: &[i64],
     work: &[i64],
-) -> CurveAnswer
-    ensures { λ r. ⌜ paper r ≡ firstOf (checks job (now (weights .entry))
+) -> Checked
+    ensures answer { λ r. ⌜ paper (r .answer) ≡ firstOf (checks job (now (weights .entry))
         (lentRows (now (low .entry)) (now (high .entry)) (now (bound .entry)) (now (work .entry)))) ⌝ }
+    ensures total { λ r. ⌜ (isAccepted (paper (r .answer)) ≡ true → r .total ≡ totalWeight (now (weights .entry))) ⌝ }
 {
     if is_outside(1, 4, job.law.order) {
-        return CurveAnswer::Refused(Reason::Order, 0);
+        return refused(Reason::Order, 0);
     }
     if is_outside(1, 1000, job.law.divisor) {
-        return CurveAnswer::Refused(Reason::Divisor, 0);
+        return refused(Reason::Divisor, 0);
     }
     let term = first_wrong_term(job.law);
     if term < 4 {
-        return CurveAnswer::Refused(Reason::Term, term + 1);
+        return refused(Reason::Term, term + 1);
     }
     if is_wrong_start(job.start) {
-        return CurveAnswer::Refused(Reason::Start, 0);
+        return refused(Reason::Start, 0);
     }
     if is_outside(1, 500, weights.len() as u64) {
-        return CurveAnswer::Refused(Reason::Severities, 0);
+        return refused(Reason::Severities, 0);
     }
-    if is_outside(1, 1000, total_weight(weights)) {
-        return CurveAnswer::Refused(Reason::Weights, 0);
+    let total = total_weight(weights);
+    if is_outside(1, 1000, total) {
+        return refused(Reason::Weights, 0);
     }
     if 500 < job.last {
-        return CurveAnswer::Refused(Reason::Last, 0);
+        return refused(Reason::Last, 0);
     }
     let places = job.last as usize + 1;
     if is_too_short(places, low, high, bound, work) {
-        return CurveAnswer::Refused(Reason::Room, 0);
+        return refused(Reason::Room, 0);
     }
-    CurveAnswer::Accepted
+    Checked {
+        answer: CurveAnswer::Accepted,
+        total,
+    }
 }

@@ -2,7 +2,6 @@
 
 use super::CurveAnswer;
 use super::Reason;
-use super::check::total_weight;
 use super::rows::put;
 use super::total::entry_at;
 use enclosure::Entry;
@@ -72,22 +71,23 @@ fn fill_total(
     faults
 }
 
-// The rows, filled from total 0 on, up to the last total or the first that has a fault.
+// The rows, filled from total 0 on, up to the last total or the first that has a fault; `total` is the sum of the weights.
 pub fn fill(
     job: Job,
+    total: u64,
     weights: &[u64],
     low: &mut [i64],
     high: &mut [i64],
     bound: &mut [i64],
     work: &mut [i64],
 ) -> CurveAnswer
-    requires { ⌜ Limits job (now weights) × LongEnough (job .last + 1) (lentRows (now low) (now high) (now bound) (now work)) ⌝ }
+    requires { ⌜ (total ≡ totalWeight (now weights)) × Limits job (now weights) ⌝ }
+    requires { ⌜ LongEnough (job .last + 1) (lentRows (now low) (now high) (now bound) (now work)) ⌝ }
     ensures answer { λ r. ⌜ paper r ≡ firstOf (faults job (now (weights .entry))) ⌝ }
     ensures rows { λ r. ⌜ Filled job (now (weights .entry))
         (lentRows (now (low .entry)) (now (high .entry)) (now (bound .entry)) (now (work .entry)))
         (lentRows (now (low .exit)) (now (high .exit)) (now (bound .exit)) (now (work .exit))) ⌝ }
 {
-    let total = total_weight(weights);
     let places = job.last as usize + 1;
     for x in 0..places {
         let found = fill_total(job, total, x, weights, low, high, bound, work, places);

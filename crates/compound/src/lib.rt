@@ -74,11 +74,12 @@ pub fn curve(
         (lentRows (now (low .entry)) (now (high .entry)) (now (bound .entry)) (now (work .entry))) ⌝ }
 {
     let checked = check::check(job, weights, low, high, bound, work);
-    if is_refused(checked) {
-        return checked;
+    let answer = checked.answer;
+    if is_refused(answer) {
+        return answer;
     }
     let places = job.last as usize + 1;
-    let answer = fill::fill(job, weights, low, high, bound, work);
+    let answer = fill::fill(job, checked.total, weights, low, high, bound, work);
     rows::clear(work, rows::WORK_COLUMNS * places);
     if is_refused(answer) {
         rows::clear(low, places);

@@ -2,6 +2,7 @@
 use borrow.Author.Needs.{needs}
 use borrow.Author.Tests.{not-true, not-false}
 use mathlib.Core.Path.{_≡_, sym, ap, _∙_}
+use mathlib.Core.Bool.{true}
 use mathlib.Core.List.{List, []}
 use Prim.Native.Nat.{ℕ, _+_}
 use native.Mathlib.Omega.{arith}
@@ -32,8 +33,8 @@ returns c =
     let call = c .before .before in
     let s = call .before .before .before .before .before .before in
     let refuses = not-true _ (sym (c .before .is-refused .ensures) ∙ c .if1 .taken) in (
-      early-answer (job s) (weights s) (lent₀ s) (paper (call .check .result)) (call .check .ensures) refuses,
-      early-rows (job s) (weights s) (lent₀ s) (paper (call .check .result)) (call .check .ensures) refuses,
+      early-answer (job s) (weights s) (lent₀ s) (paper (call .check .result .answer)) (call .check .ensures .0) refuses,
+      early-rows (job s) (weights s) (lent₀ s) (paper (call .check .result .answer)) (call .check .ensures .0) refuses,
     )
 
 -- ---- past the checks
@@ -41,9 +42,11 @@ module _ (c : tie.Else1) where
   abbrev start : tie.Start
   start = c .before .before .before .before .before .before .before .before
 
+  accepts : isAccepted (paper (c .before .before .check .result .answer)) ≡ true
+  accepts = not-false _ (sym (c .before .is-refused .ensures) ∙ c .if1 .left)
+
   passed : accepted ≡ firstOf (checks (job start) (weights start) (lent₀ start))
-  passed = sym (accepted-paper (c .before .before .check .result) (not-false _ (sym (c .before .is-refused .ensures) ∙ c .if1 .left)))
-      ∙ c .before .before .check .ensures
+  passed = sym (accepted-paper (c .before .before .check .result .answer) accepts) ∙ c .before .before .check .ensures .0
 
   limits : Limits (job start) (weights start)
   limits = checked-limits (job start) (weights start) (lent₀ start) [] (sym passed) .0
@@ -55,7 +58,9 @@ add-places : tie.Need-add-places
 add-places c = record { fits = omega (arith, limits c .last-most) }
 
 fill-requires : tie.Need-fill-requires
-fill-requires c κs = let e = c .before .before .before .before in (limits e, long e)
+fill-requires c κs =
+    let e = c .before .before .before .before in
+    ((e .before .before .check .ensures .1 (accepts e), limits e), long e)
 
 -- after the totals
 module _ (c : tie.After-fill) where
@@ -64,7 +69,7 @@ module _ (c : tie.After-fill) where
 
   abbrev lent : Lent
   lent =
-      let rows = c .fill .last .1 .1 in
+      let rows = c .fill .last .1 .1 .1 in
       lentRows (rows .0) (rows .1 .0) (rows .1 .1 .0) (rows .1 .1 .1 .0)
 
   filled : Filled (job (start else)) (weights (start else)) (lent₀ (start else)) lent

@@ -6,45 +6,44 @@ use mathlib.Core.List.{List}
 use Prim.Native.Nat.{ℕ, _≤_, _<_, _-_, _+_}
 use native.Mathlib.Nat.{le-refl}
 use native.Mathlib.Omega.{arith}
-use Rattle.exact.specs.Severity.{totalWeight}
 use lib.Dec.{eqb}
 use Rattle.model.specs.declared.Job.{Job}
 use Rattle.model.specs.Answer.{refused, isAccepted, firstOf}
 use Rattle.compound.specs.declared.fill.Faults.{Faults}
 use Rattle.compound.specs.Curve.{curveRows}
 use Rattle.compound.specs.Call.{Lent, lentRows, faultAt, faults}
-use Rattle.compound.specs.Room.{faultsBelow, RowsKept, Advanced, Filled}
+use Rattle.compound.specs.Room.{Limits, faultsBelow, RowsKept, Advanced, Filled}
 use Rattle.compound.proofs.Filled.{Reached, reached-first, reached-ready, faults-curve, step-kept, reached-next}
 use Rattle.compound.proofs.Filled.{filled-fault, filled-end, found-range, found-bound, found-none}
 use Rattle.compound.proofs.fill.fill.Statement.{statement}
 use Rattle.compound.proofs.fill.fill.Tie as tie
 
 abbrev Inv-loop : tie.InvT-loop
-Inv-loop job weights low₀ high₀ bound₀ work₀ total places x₀ low high bound work x = (x ≤ job .last + 1)
+Inv-loop job total weights low₀ high₀ bound₀ work₀ places x₀ low high bound work x = (x ≤ job .last + 1)
     × Reached job weights (lentRows low₀ high₀ bound₀ work₀) x (lentRows low high bound work)
 
 abbrev μ-loop : tie.MeasureT-loop
-μ-loop job weights low₀ high₀ bound₀ work₀ total places x₀ low high bound work x = job .last + 1 - x
+μ-loop job total weights low₀ high₀ bound₀ work₀ places x₀ low high bound work x = job .last + 1 - x
+
+limits : (c : tie.Start Inv-loop μ-loop) → Limits (c .args .job) (c .args .weights .now)
+limits c = c .pre .0 .1
 
 add-places : tie.Need-add-places Inv-loop μ-loop
-add-places c = record { fits = omega (arith, c .before .before .pre .0 .last-most) }
+add-places c = record { fits = omega (arith, limits (c .before) .last-most) }
 
 loop-holds : tie.Need-loop-holds Inv-loop μ-loop
-loop-holds c = (search needs, reached-first _ _ (c .before .before .pre .0) _)
+loop-holds c = (search needs, reached-first _ _ (limits (c .before)) _)
 
 -- the rows at the start and where a total is reached
 module _ (c : tie.At-loop Inv-loop μ-loop) where
   abbrev start : tie.Start Inv-loop μ-loop
-  start = c .before .before .before
+  start = c .before .before
 
   abbrev lent₀ : Lent
   lent₀ = lentRows (start .args .low .now) (start .args .high .now) (start .args .bound .now) (start .args .work .now)
 
   abbrev lent : Lent
   lent = lentRows (c .loop .low) (c .loop .high) (c .loop .bound) (c .loop .work)
-
-  total-is : c .before .total-weight .result ≡ totalWeight (start .args .weights .now)
-  total-is = omega (arith, c .before .total-weight .ensures, start .pre .0 .table .weights-most)
 
 -- the total of a turn is one of the job's
 below : (c : tie.In-loop Inv-loop μ-loop) → c .before .loop .x < start (c .before) .args .job .last + 1
@@ -55,7 +54,7 @@ fill-total-requires c κs =
     let turn = c .before .before .before .before in
     let loop = turn .before in
     let s = start loop in
-    ((total-is loop, s .pre .0), reached-ready _ _ (s .pre .0) _ (s .pre .1) _ _ (loop .loop .inv .1) (below turn))
+    (s .pre .0, reached-ready _ _ (limits s) _ (s .pre .1) _ _ (loop .loop .inv .1) (below turn))
 
 -- after the entries of a total are put
 module _ (c : tie.After-work Inv-loop μ-loop) where
@@ -90,11 +89,11 @@ module _ (c : tie.After-work Inv-loop μ-loop) where
 
   found : call .fill-total .result ≡ faultsBelow (job .law .order) (curveRows job weights) x
   found = call .fill-total .ensures .0
-      ∙ faults-curve job weights (start loop .pre .0) (lent₀ loop) (start loop .pre .1) x (lent loop) here
+      ∙ faults-curve job weights (limits (start loop)) (lent₀ loop) (start loop .pre .1) x (lent loop) here
 
   kept : RowsKept (x + 1) (job .last + 1) filled (lent₀ loop)
   kept =
-      step-kept job weights (start loop .pre .0) (lent₀ loop) (start loop .pre .1) x (lent loop) here filled step (x + 1)
+      step-kept job weights (limits (start loop)) (lent₀ loop) (start loop .pre .1) x (lent loop) here filled step (x + 1)
       (le-refl (x + 1))
 
   -- an answer at this total
@@ -102,20 +101,20 @@ module _ (c : tie.After-work Inv-loop μ-loop) where
       → (refused number x ≡ firstOf (faults job weights)) × Filled job weights (lent₀ loop) filled
   fault number refuses e = (
     sym e,
-    filled-fault job weights (start loop .pre .0) (lent₀ loop) (start loop .pre .1) x (lent loop) here filled step
+    filled-fault job weights (limits (start loop)) (lent₀ loop) (start loop .pre .1) x (lent loop) here filled step
         (below turn) (ap isAccepted e ∙ refuses),
   )
 
 returns : tie.Need-returns Inv-loop μ-loop
 returns c =
     let w = c .before in
-    fault w 9 refl (found-range (job w) (weights w) (start (loop w) .pre .0) (x w) (below (turn w)) (here w .sound)
+    fault w 9 refl (found-range (job w) (weights w) (limits (start (loop w))) (x w) (below (turn w)) (here w .sound)
     (sym (ap (λ (f : Faults). f .range) (found w)) ∙ c .if1 .taken))
 
 returns-2 : tie.Need-returns-2 Inv-loop μ-loop
 returns-2 c =
     let w = c .before .before in
-    fault w 10 refl (found-bound (job w) (weights w) (start (loop w) .pre .0) (x w) (below (turn w)) (here w .sound)
+    fault w 10 refl (found-bound (job w) (weights w) (limits (start (loop w))) (x w) (below (turn w)) (here w .sound)
     (sym (ap (λ (f : Faults). f .range) (found w)) ∙ c .before .if1 .left) (sym (ap (λ (f : Faults). f .bound) (found w)) ∙ c .if2 .taken))
 
 -- no fault, and the next total
@@ -128,7 +127,7 @@ sound c =
 add-x : tie.Need-add-x Inv-loop μ-loop
 add-x c =
     let w = c .before .before in
-    record { fits = omega (arith, below (turn w), start (loop w) .pre .0 .last-most) }
+    record { fits = omega (arith, below (turn w), limits (start (loop w)) .last-most) }
 
 loop-less : tie.Need-loop-less Inv-loop μ-loop
 loop-less c = omega (arith, below (turn (c .before .before)))
@@ -137,7 +136,7 @@ loop-again : tie.Need-loop-again Inv-loop μ-loop
 loop-again c =
     let w = c .before .before in (
       omega (arith, below (turn w)),
-      reached-next (job w) (weights w) (start (loop w) .pre .0) (lent₀ (loop w)) (start (loop w) .pre .1) (x w) (lent (loop w)) (here w)
+      reached-next (job w) (weights w) (limits (start (loop w))) (lent₀ (loop w)) (start (loop w) .pre .1) (x w) (lent (loop w)) (here w)
           (filled w) (step w) (sound c),
     )
 
@@ -146,8 +145,8 @@ returns-3 c =
     let loop = c .before in
     let s = start loop in
     let all : loop .loop .x ≡ s .args .job .last + 1 = omega (arith, loop .loop .inv .0, c .loop-test .left) in (
-      sym (found-none (s .args .job) (s .args .weights .now) (s .pre .0) (rw all at (loop .loop .inv .1 .sound))),
-      filled-end (s .args .job) (s .args .weights .now) (s .pre .0) (lent₀ loop) (s .pre .1) (loop .loop .x) (lent loop)
+      sym (found-none (s .args .job) (s .args .weights .now) (limits s) (rw all at (loop .loop .inv .1 .sound))),
+      filled-end (s .args .job) (s .args .weights .now) (limits s) (lent₀ loop) (s .pre .1) (loop .loop .x) (lent loop)
           (loop .loop .inv .1) all,
     )
 
@@ -157,7 +156,6 @@ fill-spec =
     (tie.spec
     Inv-loop
     μ-loop
-    (λ c κs. search needs)
     add-places
     loop-holds
     fill-total-requires
