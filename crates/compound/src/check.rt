@@ -96,6 +96,7 @@ fn is_too_short(places: usize, low: &[i64], high: &[i64], bound: &[i64], work: &
     work.len() < WORK_COLUMNS * places
 }
 
+// A refusal, which tells no sum.
 fn refused(reason: Reason, place: usize) -> Checked
     ensures { λ r. ⌜ r ≡ refusedBy reason place ⌝ }
 {
