@@ -1,6 +1,6 @@
 """Sets the sheets in examples/ beside the laws that examples/README.md and docs/CLASS.md name: the starts are U times the chance of no
-claims, rounded down and up, and the exact amounts of the law lie from the lows to the highs of the table that the program is to write.
-Every sheet there must be known here."""
+claims, rounded down and up, the terms give the law's count coefficients, and the exact amounts of the law lie from the lows to the highs of
+the table that the program is to write. Every sheet there must be known here."""
 import math
 import pathlib
 import sys
@@ -42,6 +42,13 @@ LAWS = {
 REFUSED = {"refused.txt": b"REFUSED 24 8\n", "class/growing.txt": b"REFUSED 10 19\n"}
 
 
+def term_faults(job, law):
+    """The terms give the count coefficients of the law, as far as 20 claims."""
+    by_terms = exact.by_terms(job.divisor, job.a[:job.order], job.b[:job.order])
+    if any(by_terms(n) != law(n) for n in range(21)):
+        yield "the TERM lines are not those of the law"
+
+
 def start_faults(job, start):
     if (job.low_start, job.high_start) != (math.floor(start), math.ceil(start)):
         yield f"START is not {math.floor(start)} {math.ceil(start)}"
@@ -66,6 +73,7 @@ def faults(name):
     if name in LAWS:
         law, none = LAWS[name]
         job = read_job(sheet, program.MOST_WEIGHTS)
+        yield from term_faults(job, law)
         yield from start_faults(job, UNIT * none)
         if name not in REFUSED:
             yield from table_faults(job, table, law, UNIT * none)

@@ -6,7 +6,7 @@ import sys
 from fractions import Fraction
 
 import program
-from sheet import read_job
+from sheet import Refused, read_job
 
 
 def next_values(job, earlier):
@@ -37,6 +37,17 @@ def table(job, start):
     return "TOTAL CHANCE\n" + "".join(f"{total} {nine_digits(units)}\n" for total, units in enumerate(nearest(job, start)))
 
 
-if __name__ == "__main__":
+def main():
+    if len(sys.argv) != 3:
+        sys.exit("usage: nearest.py SHEET START")
     path, start = sys.argv[1:]
-    print(end=table(read_job(pathlib.Path(path).read_bytes(), program.MOST_WEIGHTS), int(start)))
+    try:
+        print(end=table(read_job(pathlib.Path(path).read_bytes(), program.MOST_WEIGHTS), int(start)))
+    except Refused as refusal:
+        sys.exit(f"the sheet is refused by {refusal.number} at line {refusal.line}")
+    except (OSError, ValueError) as fault:
+        sys.exit(f"nearest.py: {fault}")
+
+
+if __name__ == "__main__":
+    main()

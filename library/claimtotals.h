@@ -7,9 +7,9 @@
    the first in the order of the lists below that holds. Where a call refuses, its place is 0 and it has written nothing but that place,
    unless its list says otherwise.
 
-   What the caller owes: a pointer is not null and is aligned for its type; a row has as many places as the number after it says (a row of 0
-   places is allowed); what a call writes to overlaps nothing else that it is given; and no other thread writes to any of it during the
-   call. The calls keep no state, allocate nothing, and may run in several threads at once. Each needs less than 16 kB of stack. */
+   What the caller owes: a pointer is not null and is aligned for its type; NAME_length is the number of places of the row NAME (0 is
+   allowed); what a call writes to overlaps nothing else that it is given; and no other thread writes to any of it during the call. The calls
+   keep no state, allocate nothing, and may run in several threads at once. Each needs less than 16 kB of stack. */
 
 #ifndef CLAIMTOTALS_H
 #define CLAIMTOTALS_H
@@ -53,7 +53,7 @@ extern "C" {
    8    a row has fewer than X+1 places, or the work row fewer than 9(X+1)
    9    at the total that is the place, the smallest with a fault, a low or a high would lie outside -2U to 2U, in the curve or in one of
         the further rows that an order above 1 needs
-   10   none would there, but a bound would be above U
+   10   at that total none would, but a bound would be above U, in the curve or in one of those rows
 
    After 9 and 10 the first X+1 places of the three rows are 0. After 0, 9 and 10 the first 9(X+1) places of the work row are 0. Later
    places keep what they held. */

@@ -11,7 +11,7 @@ from lesson import both_round_to, cut, evaluate, job, lines, rows
 import exact
 from level import level_query
 from nearest import nearest, nine_digits
-from outward import UNIT
+from outward import UNIT, first_entries, next_entries
 
 HALF, THIRD, QUARTER, FIFTH = (Fraction(1, n) for n in (2, 3, 4, 5))
 E_1, E_QUARTER = (Fraction(Context(prec=50).exp(Decimal(power))) for power in ("-1", "-0.25"))
@@ -31,6 +31,15 @@ def where(holds, sentence):
 
 def column(name, place):
     return [row[place] for row in rows(name)]
+
+
+def entry_at(name, total):
+    """Low, high and bound by the rule, also at a total that is refused."""
+    read = job(name)
+    totals = [first_entries(read)]
+    while len(totals) <= total:
+        totals.append(next_entries(read, totals))
+    return totals[total][0]
 
 
 def greatest(amounts):
@@ -78,7 +87,10 @@ def binomial_table():
     yield (f"It is 7/3 in part 2, where they go up from {table[8][3]} to {table[12][3]} though the start was exact, and "
            f"{-job('growing.txt').a[0]} here.")
     refusal = lines("binomial.txt", 500)[0]
-    yield f"`{refusal}`. No year costs more than 6, so the exact chance of total 48 is {PUMPS[int(refusal.split()[2])]}."
+    total = int(refusal.split()[2])
+    low, high, bound = entry_at("binomial.txt", total)
+    yield where(bound > UNIT, f"`{refusal}`. No year costs more than 6, so the exact chance of total {total} is {PUMPS[total]}. It is the "
+                              f"bound that is refused; the enclosure itself would be from {low} to {high}, too wide to be of use.")
 
 
 def binomial_nearest():
@@ -145,8 +157,8 @@ def growing_table():
     yield f"Refusal {number} at total {place}: a bound would be above {UNIT:,} there."
     table = rows("growing.txt", 18)
     _, low, high, _ = table[18]
-    yield (f"the exact chance of total 18 is {cut(MOWERS[18] / UNIT, 9)}, and it does lie from {nine_digits(low)} to "
-           f"{nine_digits(high)}.")
+    yield where(low <= MOWERS[18] <= high, f"the exact chance of total 18 is {cut(MOWERS[18] / UNIT, 9)}, and it does lie from "
+                                           f"{nine_digits(low)} to {nine_digits(high)}.")
     below = max(bound for *_, bound in table[:8]) < 400_000 <= table[8][3]
     yield where(below, f"up to total 7 the bounds are below 400000 units, {400_000 / UNIT} of chance.")
 

@@ -36,7 +36,8 @@ CALLS = {
 
 
 def load(path):
-    """The shared library at this path. Without the declarations ctypes would take every number for a C int, and cut it."""
+    """The shared library at this path. Without the declarations ctypes would take every number for a C int, and cut it. With them it cuts
+    what has more than 64 bits, without a word: the caller sees to that."""
     library = ctypes.CDLL(str(path))
     for name, (answer, parameters) in CALLS.items():
         call = getattr(library, name)

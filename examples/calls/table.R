@@ -19,7 +19,8 @@ given <- commandArgs(trailingOnly = TRUE)
 if (!length(given) %in% 1:2) stop_with(2, "usage: Rscript table.R SHEET [PROGRAM]")
 sheet <- given[1]
 program <- if (length(given) == 2) given[2] else "target/bin/curve"
-for (path in c(sheet, program)) if (!file.exists(path)) stop_with(2, "no file at ", path)
+if (!file.exists(sheet)) stop_with(2, "no file at ", sheet)
+if (!file.exists(program)) stop_with(2, "no program at ", program, ": ./curve SHEET builds target/bin/curve")
 
 lines <- system2(program, stdin = sheet, stdout = TRUE)
 if (!is.null(attr(lines, "status"))) stop_with(2, "the program ended with status ", attr(lines, "status"))

@@ -86,7 +86,10 @@ def main():
     if len(sys.argv) not in (2, 3):
         print(f"usage: {sys.argv[0]} SHEET [LIBRARY]", file=sys.stderr)
         return 2
-    path, library = sys.argv[1], (sys.argv[2:] or [LIBRARY])[0]
+    path, library = sys.argv[1], pathlib.Path((sys.argv[2:] or [LIBRARY])[0])
+    if not library.exists():
+        print(f"no library at {library}: library/build builds it", file=sys.stderr)
+        return 2
     try:
         show(claimtotals.load(library), pathlib.Path(path).read_bytes())
     except Refused as refusal:
