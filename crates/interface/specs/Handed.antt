@@ -13,13 +13,14 @@ abbrev pub returned : ℕ → ℕ → Answer
 returned number place = record { number = number; place = place }
 
 -- k, D, A_1..A_4, B_1..B_4, s, t and X
-abbrev pub jobOf : ℕ → ℕ → List ℤ → List ℤ → ℕ → ℕ → ℕ → Job
-jobOf order divisor a b low high last =
+abbrev pub jobOfNumbers : ℕ → ℕ → List ℤ → List ℤ → ℕ → ℕ → ℕ → Job
+jobOfNumbers order divisor a b low high last =
     record { law = record { order = order; divisor = divisor; a = a; b = b }; start = record { low = low; high = high }; last = last }
 
 -- what the reader tells; the weights are the first of the row
 abbrev pub tells : Answer → Job → ℕ → List ℕ → Told
 tells answer job count row = record { answer = answer; job = job; count = count; weights = take count row }
 
+-- what the level query tells
 abbrev pub totals : Answer → ℕ → ℕ → Quantiles
 totals answer sure possible = record { answer = answer; sure = sure; possible = possible }

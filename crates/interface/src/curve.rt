@@ -1,13 +1,14 @@
 // The curve call.
 
 use compound::CurveAnswer;
+use compound::curve;
 use compound::reason_number;
 use model::Job;
 use model::Law;
 use model::Start;
 ghost use mathlib.Core.Path.{_≡_};
 ghost use Rattle.compound.specs.Call.{lentRows, paper, curveAnswer, curveLent};
-ghost use Rattle.interface.specs.Handed.{returned, jobOf};
+ghost use Rattle.interface.specs.Handed.{returned, jobOfNumbers};
 
 fn number_of(answer: CurveAnswer) -> u64
     ensures { λ r. ⌜ r ≡ paper answer .number ⌝ }
@@ -44,10 +45,10 @@ pub extern "C" fn claimtotals_curve(
     place: &mut usize,
 ) -> u64
     ensures answer { λ r. ⌜ returned r (now (place .exit))
-        ≡ curveAnswer (jobOf order divisor (now (a .entry)) (now (b .entry)) «start_low» «start_high» last) (now (weights .entry))
+        ≡ curveAnswer (jobOfNumbers order divisor (now (a .entry)) (now (b .entry)) «start_low» «start_high» last) (now (weights .entry))
         (lentRows (now (low .entry)) (now (high .entry)) (now (bound .entry)) (now (work .entry))) ⌝ }
     ensures rows { λ r. ⌜ lentRows (now (low .exit)) (now (high .exit)) (now (bound .exit)) (now (work .exit))
-        ≡ curveLent (jobOf order divisor (now (a .entry)) (now (b .entry)) «start_low» «start_high» last) (now (weights .entry))
+        ≡ curveLent (jobOfNumbers order divisor (now (a .entry)) (now (b .entry)) «start_low» «start_high» last) (now (weights .entry))
         (lentRows (now (low .entry)) (now (high .entry)) (now (bound .entry)) (now (work .entry))) ⌝ }
 {
     let law = Law {
@@ -61,7 +62,7 @@ pub extern "C" fn claimtotals_curve(
         high: start_high,
     };
     let job = Job { law, start, last };
-    let answer = compound::curve(job, weights, low, high, bound, work);
+    let answer = curve(job, weights, low, high, bound, work);
     *place = place_of(answer);
     number_of(answer)
 }

@@ -24,11 +24,11 @@ pub extern "C" fn claimtotals_quantile(
     *possible = 0;
     match quantile(low, high, level) {
         QuantileAnswer::Totals {
-            sure: s,
-            possible: p,
+            sure: by_lows,
+            possible: by_highs,
         } => {
-            *sure = s;
-            *possible = p;
+            *sure = by_lows;
+            *possible = by_highs;
             0
         }
         QuantileAnswer::Refused(reason, at) => {

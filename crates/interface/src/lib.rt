@@ -1,4 +1,4 @@
-// The calls for C and other languages: numbers and slices alone. Each makes the call of its crate and hands the answer over number by
+// The calls for C and other languages: numbers and rows of numbers alone. Each makes the call of its crate and hands the answer over number by
 // number; library/claimtotals.h says what each parameter is.
 
 pub mod curve;

@@ -8,7 +8,7 @@ ghost use mathlib.Core.Path.{_≡_};
 ghost use lib.ListN.{length};
 ghost use Rattle.sheet.specs.Reading.{reading};
 ghost use Rattle.sheet.specs.Call.{answerOf, told, rowOnReturn, partOf, faultyPart};
-ghost use Rattle.interface.specs.Handed.{returned, jobOf, tells};
+ghost use Rattle.interface.specs.Handed.{returned, jobOfNumbers, tells};
 
 fn number_of(answer: LineAnswer) -> u64
     ensures { λ r. ⌜ r ≡ answerOf answer .number ⌝ }
@@ -43,7 +43,7 @@ pub extern "C" fn claimtotals_read_sheet(
     count: &mut usize,
 ) -> u64
     ensures answer { λ r. ⌜ tells (returned r (now (line .exit)))
-        (jobOf (now (order .exit)) (now (divisor .exit)) (now (a .exit)) (now (b .exit))
+        (jobOfNumbers (now (order .exit)) (now (divisor .exit)) (now (a .exit)) (now (b .exit))
         (now («start_low» .exit)) (now («start_high» .exit)) (now (last .exit)))
         (now (count .exit)) (now (row .exit))
         ≡ told (reading (length (now (row .entry))) (now (sheet .entry))) ⌝ }
@@ -55,6 +55,7 @@ pub extern "C" fn claimtotals_read_sheet(
     let start = job.start;
     *order = law.order;
     *divisor = law.divisor;
+    // an array goes behind a reference by way of a local
     let terms = law.a;
     *a = terms;
     let terms = law.b;

@@ -7,12 +7,12 @@ use mathlib.Core.Option.{none, some}
 use Prim.Native.Nat.{ℕ, _+_, _≤_}
 use lib.IntN.{ℤ, pos}
 use lib.ListN.{length, getD}
-use Rattle.text.specs.Lines.{lineAt}
+use Rattle.text.specs.Lines.{lineAt, lineStart, spaced}
 use Rattle.text.specs.Numbers.{AtMostTenDigits, number}
 use Rattle.sheet.specs.Sheet.{Sheet, sheetText}
 use Rattle.sheet.specs.Line.{allNumbers}
 use Rattle.sheet.specs.Reading.{reads, refuses, reading}
-use Rattle.sheet.specs.Call.{numberWords, signsOn, faultyWord, bytesOf, faultyPart}
+use Rattle.sheet.specs.Call.{keywordOf, numberWords, signsOn, faultyWord, bytesOf, faultyPart}
 use Rattle.sheet.specs.declared.Part.{Part}
 
 -- the four terms of a law, at most 10 digits each; those past the order are zero
@@ -63,11 +63,17 @@ abbrev pub HandsBackFirstFaulty : Type 0
 HandsBackFirstFaulty = (places : ℕ) (s : List ℕ) (n : ℕ) → reading places s ≡ refuses 24 n
     → FirstFaulty (signsOn (lineAt n s)) (numberWords (lineAt n s)) (faultyWord places s)
 
--- a part of a text has the bytes of a word
-pub record Stands (part : Part) (s word : List ℕ) : Type 0 where
+-- a part of a text is a word
+pub record PartIs (part : Part) (s word : List ℕ) : Type 0 where
   pub within : part .start + part .length ≤ length s
   pub bytes : bytesOf part s ≡ word
 
--- the faulty word's part of the sheet
-abbrev pub FaultyPartStands : Type 0
-FaultyPartStands = (places : ℕ) (s : List ℕ) → Stands (faultyPart places s) s (faultyWord places s)
+-- the faulty word is the part of the sheet that `faultyPart` names
+abbrev pub FaultyPartIsWord : Type 0
+FaultyPartIsWord = (places : ℕ) (s : List ℕ) → PartIs (faultyPart places s) s (faultyWord places s)
+
+-- with 24 it begins on the refused line, behind the keyword and the words before it, with a space after each
+abbrev pub FaultyPartBegins : Type 0
+FaultyPartBegins = (places : ℕ) (s : List ℕ) (n : ℕ) → reading places s ≡ refuses 24 n
+    → (first : FirstFaulty (signsOn (lineAt n s)) (numberWords (lineAt n s)) (faultyWord places s))
+    → faultyPart places s .start ≡ lineStart n s + length (keywordOf (lineAt n s) ++ spaced (first .earlier)) + 1

@@ -1,5 +1,5 @@
--- The two calls: the sheet reader, "Takes the sheet's bytes and a lent row for weights", and the call that gives the faulty word, "from the
--- sheet and the row's number of places".
+-- The calls: the sheet reader, "Takes the sheet's bytes and a lent row for weights", and those that give the faulty word, "from the sheet
+-- and the row's number of places", and where it stands.
 use mathlib.Core.Bool.{Bool, true, false, cond}
 use mathlib.Core.List.{List, [], _∷_}
 use mathlib.Core.Option.{Option, none, some}
@@ -95,7 +95,7 @@ faultyWord places s = wordOf (reading places s) s
 
 -- ---- where it stands: so many bytes from a place on, which is counted from 0
 abbrev pub partOf : ℕ → ℕ → Part
-partOf start length = record { start = start; length = length }
+partOf start count = record { start = start; length = count }
 
 abbrev pub noPart : Part
 noPart = partOf 0 0

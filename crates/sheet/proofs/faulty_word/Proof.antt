@@ -9,8 +9,8 @@ use lib.Seq.{length-take-le}
 use Rattle.algebra.proofs.Slice.{part-to-end}
 use Rattle.sheet.specs.declared.Part.{Part}
 use Rattle.sheet.specs.Call.{faultyWord}
-use Rattle.sheet.specs.Accepts.{Stands}
-use Rattle.sheet.proofs.Located.{faulty-part-stands}
+use Rattle.sheet.specs.Accepts.{PartIs}
+use Rattle.sheet.proofs.Located.{faulty-part-is-word}
 use Rattle.sheet.proofs.faulty_word.Statement.{statement}
 use Rattle.sheet.proofs.faulty_word.Tie as tie
 
@@ -24,8 +24,8 @@ module _ (c : tie.After-faulty-part) where
   abbrev part : Part
   part = c .faulty-part .result
 
-  stands : Stands part sheet (faultyWord places sheet)
-  stands = subst (λ (p : Part). Stands p sheet (faultyWord places sheet)) (sym (c .faulty-part .ensures)) (faulty-part-stands places sheet)
+  stands : PartIs part sheet (faultyWord places sheet)
+  stands = subst (λ (p : Part). PartIs p sheet (faultyWord places sheet)) (sym (c .faulty-part .ensures)) (faulty-part-is-word places sheet)
 
   abbrev rest : List ℕ
   rest = take (length sheet - part .start) (drop (part .start) sheet)

@@ -14,7 +14,7 @@ queried : (c : tie.After-quantile) → paper (c .quantile .result)
 queried c = let level = c .before .fits .level in simp toZ-ofZ at (c .quantile .ensures)
 
 returns : tie.Need-returns
-returns c = ap paper (sym (c .before .s .given .1)) ∙ queried (c .before .before .before)
+returns c = ap paper (sym (c .before .by-lows .given .1)) ∙ queried (c .before .before .before)
 
 returns-2 : tie.Need-returns-2
 returns-2 c =
