@@ -8,8 +8,8 @@
    unless its list says otherwise.
 
    What the caller owes: a pointer is not null and is aligned for its type; NAME_length is the number of places of the row NAME (0 is
-   allowed); what a call writes to overlaps nothing else that it is given; and no other thread writes to any of it during the call. The calls
-   keep no state, allocate nothing, and may run in several threads at once. Each needs less than 16 kB of stack. */
+   allowed); what a call writes to overlaps nothing else that it is given; and no other thread writes to any of it during the call. The
+   calls keep no state, allocate nothing, and may run in several threads at once. Each needs less than 16 kB of stack. */
 
 #ifndef CLAIMTOTALS_H
 #define CLAIMTOTALS_H

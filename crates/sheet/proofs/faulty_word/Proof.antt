@@ -39,6 +39,9 @@ module _ (c : tie.After-faulty-part) where
   word-is : take (part .length) rest ≡ faultyWord places sheet
   word-is = ap (take (part .length)) whole ∙ stands .bytes
 
+returns : tie.Need-returns
+returns c = word-is (c .before .before)
+
 pub faulty-word-spec : {M : Type 1} → statement M
 faulty-word-spec =
     tie.close
@@ -48,4 +51,4 @@ faulty-word-spec =
     (λ c. omega (arith, stands c .within))
     (λ c. search needs)
     (λ c. let at = c .before .before in sym (length-take-le (part at .length) (rest at) (long-enough at)))
-    (λ c. word-is (c .before .before)))
+    returns)
