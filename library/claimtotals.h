@@ -3,9 +3,9 @@
    The chance of each yearly claim total, as a low and a high with a bound on the gap between them, all in units: one unit U is
    1,000,000,000 and stands for chance 1. README.md says what the numbers of a job mean and what is claimed of the answers.
 
-   Every call takes numbers of any content and rows of any length. It answers with a number: 0 for an acceptance, else that of the refusal,
-   the first in the order of the lists below that holds. Where a call refuses, its place is 0 and it has written nothing but that place,
-   unless its list says otherwise.
+   Every call takes numbers of any content and rows of any length. All but claimtotals_faulty_word, which refuses nothing, answer with a
+   number: 0 for an acceptance, else that of the refusal, the first in the order of the lists below that holds. Where a call refuses, its
+   place is 0 and it has written nothing but that place, unless its list says otherwise.
 
    What the caller owes: a pointer is not null and is aligned for its type; NAME_length is the number of places of the row NAME (0 is
    allowed); what a call writes to overlaps nothing else that it is given; and no other thread writes to any of it during the call. The
