@@ -1,4 +1,4 @@
--- The sheet reader: what a sheet is, what reading one gives, the two calls, and what is proved of the definition.
+-- The sheet reader: what a sheet is, what reading one gives, the calls, and what is proved of the definition.
 pub mod Sheet
 pub mod Line
 pub mod Reading
