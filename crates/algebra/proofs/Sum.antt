@@ -6,7 +6,8 @@ use native.Mathlib.Decide.{decLe}
 use native.Mathlib.Numerals.{add-one}
 use native.Mathlib.Omega.{arith}
 use Rattle.algebra.specs.Semiring.{Semiring}
-use Rattle.algebra.specs.Sum.{accumulate, sum, SumRelated, SumAdd, SumScale, SumExchange, SumShift, SumCut, SumDiagonals, SumTriangle}
+use Rattle.algebra.specs.Sum.{accumulate, accumulateBack, sum, SumRelated, SumParts}
+use Rattle.algebra.specs.Sum.{SumAdd, SumScale, SumExchange, SumShift, SumCut, SumDiagonals, SumTriangle}
 use Rattle.algebra.proofs.Semiring.{ring}
 
 pub sum-related : {A B : Type 0} → SumRelated A B
@@ -34,6 +35,19 @@ unfolding accumulate
 accumulate-from 𝟘 plus assoc unit a zero f = sym (unit a)
 accumulate-from 𝟘 plus assoc unit a (suc n) f =
     ap (λ b. plus b (f n)) (accumulate-from 𝟘 plus assoc unit a n f) ∙ assoc a (accumulate 𝟘 plus n f) (f n)
+
+-- one term after the other is taken over
+pub sum-parts : {A : Type 0} → SumParts A
+unfolding accumulate
+sum-parts 𝟘 plus assoc comm unit s m zero f h = ap (λ (k : ℕ). accumulate s plus k f) (sym (NL.sub-zero m)) ∙ sym (unit _)
+sum-parts 𝟘 plus assoc comm unit s m (suc n) f h =
+    let next : m - n ≡ suc (m - suc n) = omega arith in
+    let place : m - suc n ≡ m - (n + 1) = omega arith in
+    let last = accumulateBack 𝟘 plus m n f in
+    sum-parts 𝟘 plus assoc comm unit s m n f (omega arith)
+    ∙ ap (λ (k : ℕ). plus (accumulate s plus k f) last) next
+    ∙ assoc _ (f (m - suc n)) last
+    ∙ ap (plus _) (comm (f (m - suc n)) last ∙ ap (λ (k : ℕ). plus last (f k)) place)
 
 -- equal terms, equal sums; only the terms below n count
 pub accumulate-cong : {A : Type 0} (𝟘 : A) (plus : A → A → A) (n : ℕ) {f g : ℕ → A} → ((i : ℕ) → i < n → f i ≡ g i)
@@ -102,11 +116,11 @@ module _ (R : Semiring) where
       by (no l) = ap (λ (k : ℕ). sum R k f) (apart l) ∙ sum-extend m (n - m) f h ∙ ap (λ (k : ℕ). sum R k f) (omega arith)
 
   -- last term first
-  sum-reverse : (n : ℕ) (f : ℕ → A) → sum R n f ≡ sum R n (λ i. f (n - suc i))
-  sum-reverse zero f = sum-zero f ∙ sym (sum-zero (λ i. f (0 - suc i)))
-  sum-reverse (suc n) f = sum-suc n f ∙ R .add-comm (sum R n f) (f n)
-      ∙ ap₂ _⊹_ (ap f (omega arith)) (sum-reverse n f ∙ sum-cong n (λ i l. ap f (omega arith)))
-      ∙ sym (sum-shift n (λ i. f (suc n - suc i)))
+  sum-reverse : (n : ℕ) (f : ℕ → A) → sum R n f ≡ sum R n (λ i. f (n - (i + 1)))
+  sum-reverse n f = sum-parts 𝟘 _⊹_ (R .add-assoc) (R .add-comm) (R .add-zero) 𝟘 n n f (NL.le-refl n)
+      ∙ ap (λ (k : ℕ). sum R k f ⊹ sum R n (λ i. f (n - (i + 1)))) (NL.sub-self n)
+      ∙ ap (λ (x : A). x ⊹ sum R n (λ i. f (n - (i + 1)))) (sum-zero f)
+      ∙ R .add-comm 𝟘 _ ∙ R .add-zero _
 
   -- a triangle of side n + 1 is one of side n and one diagonal more
   pub sum-diagonals : SumDiagonals R
@@ -133,4 +147,4 @@ module _ (R : Semiring) where
   sum-triangle n F = sum-diagonals n F ∙ sum-cong n (λ u l. turned u) ∙ sym (sum-diagonals n (λ z y. F y z))
     where
       turned : (u : ℕ) → sum R u (λ y. F y (u - suc y)) ≡ sum R u (λ z. F (u - suc z) z)
-      turned u = sum-reverse u (λ y. F y (u - suc y)) ∙ sum-cong u (λ z l. ap (λ (k : ℕ). F (u - suc z) k) (omega arith))
+      turned u = sum-reverse u (λ y. F y (u - suc y)) ∙ sum-cong u (λ z l. ap₂ F (omega arith) (omega arith))

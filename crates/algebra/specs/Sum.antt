@@ -9,6 +9,10 @@ unfoldable pub accumulate : {A : Type 0} → A → (A → A → A) → ℕ → (
 accumulate 𝟘 plus zero f = 𝟘
 accumulate 𝟘 plus (suc n) f = plus (accumulate 𝟘 plus n f) (f n)
 
+-- of the first m terms the last n, from the last on: f (m - 1) + f (m - 2) + .. + f (m - n)
+abbrev pub accumulateBack : {A : Type 0} → A → (A → A → A) → ℕ → ℕ → (ℕ → A) → A
+accumulateBack 𝟘 plus m n f = accumulate 𝟘 plus n (λ i. f (m - (i + 1)))
+
 abbrev pub sum : (R : Semiring) → ℕ → (ℕ → R .carrier) → R .carrier
 sum R = accumulate (R .𝟘) (R ._⊹_)
 
@@ -24,6 +28,12 @@ SumRelated A B = (Rel : A → B → Type 0) (𝟘 : A) (plus : A → A → A) (�
     → Rel 𝟘 𝟘′ → ((a c : A) (b d : B) → Rel a b → Rel c d → Rel (plus a c) (plus′ b d))
     → (n : ℕ) (f : ℕ → A) (g : ℕ → B) → ((i : ℕ) → i < n → Rel (f i) (g i))
     → Rel (accumulate 𝟘 plus n f) (accumulate 𝟘′ plus′ n g)
+
+-- a sum that starts at s, its last n terms apart, where the order of adding does not matter
+abbrev pub SumParts : Type 0 → Type 0
+SumParts A = (𝟘 : A) (plus : A → A → A) → ((a b c : A) → plus (plus a b) c ≡ plus a (plus b c)) → ((a b : A) → plus a b ≡ plus b a)
+    → ((a : A) → plus a 𝟘 ≡ a) → (s : A) (m n : ℕ) (f : ℕ → A) → n ≤ m
+    → accumulate s plus m f ≡ plus (accumulate s plus (m - n) f) (accumulateBack 𝟘 plus m n f)
 
 module _ (R : Semiring) where
   open Semiring R using (carrier as A, 𝟘, _⊹_, _·_)
