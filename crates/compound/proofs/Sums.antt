@@ -6,7 +6,7 @@ use native.Mathlib.Nat as NL
 use native.Mathlib.Numerals.{add-one}
 use native.Mathlib.Omega.{arith}
 use lib.Dec.{lit≤}
-use lib.IntN.{ℤ, pos, natAbs, _+ℤ_, _*ℤ_, +ℤ-assoc, +ℤ-comm, +ℤ-idr}
+use lib.IntN.{ℤ, pos, natAbs, _+ℤ_, _*ℤ_, +ℤ-comm}
 use lib.ListN.{getD}
 use mir.Syntax.{w64}
 use mir.Val.{SFits}
@@ -21,15 +21,8 @@ use Rattle.compound.specs.Curve.{Rows, severities, factor, sumsZero, sum
 use Rattle.compound.specs.Call.{Lent}
 use Rattle.enclosure.specs.Term.{TermRoom, lineFactor, termSums}
 use Rattle.compound.specs.Room.{Ready, Reachable, termFactor, weightAlone, stored}
-use Rattle.enclosure.proofs.Scaled.{same-entry}
+use Rattle.enclosure.proofs.Scaled.{plus-assoc, plus-none}
 use Rattle.enclosure.proofs.Sizes.{term-size, quotient-fits}
-
-plus-assoc : (d e f : Entry) → plus (plus d e) f ≡ plus d (plus e f)
-plus-assoc d e f = same-entry (+ℤ-assoc (d .low) (e .low) (f .low)) (+ℤ-assoc (d .high) (e .high) (f .high))
-    (+ℤ-assoc (d .bound) (e .bound) (f .bound))
-
-plus-none : (e : Entry) → plus e none ≡ e
-plus-none e = same-entry (+ℤ-idr (e .low)) (+ℤ-idr (e .high)) (+ℤ-idr (e .bound))
 
 -- a further row is a term whose factor is the weight
 pub next-is : (weights : List ℕ) (x : ℕ) (rows : Rows) (j : ℕ)

@@ -1,8 +1,8 @@
 // Where the rows lie: row 0 in the three lent rows, a further row in three columns of the work row.
 
 use enclosure::Entry;
+use enclosure::pass::add_term;
 use enclosure::term::Factor;
-use enclosure::term::add_term;
 ghost use mathlib.Core.Path.{_≡_};
 ghost use Prim.Native.Nat.{_+_, _-_, _≤_, _<_};
 ghost use lib.IntN.{pos};

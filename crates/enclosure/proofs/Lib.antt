@@ -1,4 +1,7 @@
--- Proofs that the functions share: by the factor's sign, by size, by the code's tests.
+-- Proofs that the functions share, bottom up: entries and their opposites, lines, sizes.
 pub mod Scaled
+pub mod Line
 pub mod Sizes
+pub mod Lowered
+pub mod RunByRun
 pub mod Tests

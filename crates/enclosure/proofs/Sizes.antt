@@ -2,24 +2,25 @@
 -- an entry, so each sum grows by at most 10^6 times W times the largest entry.
 use mathlib.Core.Path.{_≡_, refl}
 use mathlib.Core.List.{List, [], _∷_}
-use Prim.Native.Nat.{ℕ, zero, suc, _+_, _-_, _*_, _≤_, _<_, _^_, min, zero-le}
+use Prim.Native.Nat.{ℕ, zero, suc, _+_, _-_, _*_, _≤_, _<_, min, zero-le}
 use native.Mathlib.Nat as NL
 use native.Mathlib.Omega.{arith}
-use lib.IntN.{ℤ, pos, negsuc, natAbs, _+ℤ_, _-ℤ_, _*ℤ_}
+use lib.IntN.{ℤ, pos, negsuc, natAbs, _+ℤ_, _*ℤ_}
 use lib.ListN.{length, getD}
 use mir.Syntax.{w64}
 use mir.Val.{SFits}
 use Rattle.algebra.specs.Sum.{accumulate, sumℕ}
 use Rattle.algebra.proofs.Natural.{naturals}
-use Rattle.algebra.proofs.Sum.{sum-zero, sum-shift, sum-vanishes}
-use Rattle.algebra.proofs.Size.{size-add, size-sub, size-mul-le, size-fits}
+use Rattle.algebra.proofs.Sum.{accumulate-next, sum-zero, sum-shift, sum-vanishes}
+use Rattle.algebra.proofs.Size.{size-add, size-mul-le, size-fits}
 use Rattle.exact.specs.Severity.{totalWeight}
 use Rattle.outward.specs.Division.{ceilDiv}
 use Rattle.outward.proofs.Division.{ceil-size}
 use Rattle.enclosure.specs.declared.Entry.{Entry}
 use Rattle.enclosure.specs.declared.term.Factor.{Factor}
 use Rattle.enclosure.specs.Entry.{unit, plus, scaled}
-use Rattle.enclosure.specs.Term.{AddRoom, FactorRoom, TermRoom, Small, lineFactor, termSums}
+use Rattle.enclosure.specs.Term.{TermRoom, Small, lineAt, lineFactor, termSums}
+use Rattle.enclosure.specs.Run.{FactorSmall, EntryFits}
 
 -- ---- weights
 -- the first n weights are no more than all of them
@@ -27,6 +28,9 @@ pub first-weights : (n : ℕ) (ws : List ℕ) → sumℕ n (λ y. getD ws y 0) �
 first-weights n [] = NL.le-of-eq (sum-vanishes naturals n (λ y. 0) (λ y l. refl))
 first-weights zero (w ∷ ws) = rw (sum-zero naturals) zero-le
 first-weights (suc n) (w ∷ ws) = omega (arith, sum-shift naturals n (λ y. getD (w ∷ ws) y 0), first-weights n ws)
+
+pub one-weight : (y : ℕ) (ws : List ℕ) → getD ws y 0 ≤ totalWeight ws
+one-weight y ws = omega (arith, accumulate-next 0 _+_ y (λ y. getD ws y 0), first-weights (y + 1) ws)
 
 -- ---- one entry
 module _ (e : Entry) (small : Small e) where
@@ -62,102 +66,60 @@ module _ (column : Entry → ℤ) (adds : (d e : Entry) → column (plus d e) �
 pub quotient-fits : (z : ℤ) (d : ℕ) → natAbs z ≤ 4000000000000000000 → SFits w64 (ceilDiv z d +ℤ pos 1)
 quotient-fits z d h = size-fits w64 (ceilDiv z d +ℤ pos 1) (omega (arith, size-add (ceilDiv z d) (pos 1), ceil-size z d))
 
--- ---- sums and differences that are small enough
-sum-fits : (a b : ℤ) → natAbs a + natAbs b < 2 ^ 63 → SFits w64 (a +ℤ b)
-sum-fits a b h = size-fits w64 (a +ℤ b) (omega (arith, size-add a b))
+-- ---- a factor
+module _ (f : Factor) (h : FactorSmall f) where
+  pub slope-size : (y : ℕ) → y ≤ 500 → natAbs (f .slope *ℤ pos y) ≤ 500000
+  slope-size y l = size-mul-le (f .slope) (pos y) 1000 500 (h .slope-small) l
 
-difference-fits : (a b : ℤ) → natAbs a + natAbs b < 2 ^ 63 → SFits w64 (a -ℤ b)
-difference-fits a b h = size-fits w64 (a -ℤ b) (omega (arith, size-sub a b))
+  pub line-size : (y : ℕ) → y ≤ 500 → natAbs (lineAt f y) ≤ 1000000
+  line-size y l = omega (arith, size-add (f .slope *ℤ pos y) (f .constant), slope-size y l, h .constant-small)
+
+  pub factor-size : (weights : List ℕ) (y : ℕ) → y < 500 → natAbs (lineFactor f weights y) ≤ getD weights y 0 * 1000000
+  factor-size weights y l = omega (
+    arith,
+    size-mul-le (lineAt f (y + 1)) (pos (getD weights y 0)) 1000000 (getD weights y 0) (line-size (y + 1) (omega arith)) (NL.le-refl _),
+  )
 
 -- ---- a term
 module _ (sums : Entry) (f : Factor) (x : ℕ) (weights : List ℕ) (row : ℕ → Entry) (h : TermRoom sums f x weights row) where
-  -- the sums after n severities
-  abbrev at : ℕ → Entry
-  at n = accumulate sums plus n (λ y. scaled (lineFactor f weights y) (row (x - (y + 1))))
+  pub factor-small : FactorSmall f
+  factor-small = record { constant-small = h .constant-small; slope-small = h .slope-small }
 
-  -- a weight, with those before it
-  passed : (n : ℕ) → sumℕ n (λ y. getD weights y 0) + getD weights n 0 ≤ 1000
-  unfolding accumulate
-  passed n = NL.le-trans (first-weights (suc n) weights) (h .weights-small)
+  -- severity y + 1
+  abbrev summand : ℕ → Entry
+  summand y = scaled (lineFactor f weights y) (row (x - (y + 1)))
 
-  mixed-size : (y : ℕ) → y < x → natAbs (f .slope *ℤ pos (y + 1) +ℤ f .constant) ≤ 1000000
-  mixed-size y l = omega (
-    arith,
-    size-add (f .slope *ℤ pos (y + 1)) (f .constant),
-    size-mul-le (f .slope) (pos (y + 1)) 1000 500 (h .slope-small) (omega (arith, h .x-small)),
-    h .constant-small,
-  )
-
-  factor-size : (y : ℕ) → y < x → natAbs (lineFactor f weights y) ≤ getD weights y 0 * 1000000
-  factor-size y l = omega (
-    arith,
-    size-mul-le (f .slope *ℤ pos (y + 1) +ℤ f .constant) (pos (getD weights y 0)) 1000000 (getD weights y 0)
-        (mixed-size y l) (NL.le-refl _),
-  )
-
-  pub factor-room : (y : ℕ) → y < x → FactorRoom f (y + 1) (getD weights y 0)
-  factor-room y l =
-      let slope = size-mul-le (f .slope) (pos (y + 1)) 1000 500 (h .slope-small) (omega (arith, h .x-small)) in
-      record {
-        y-fits = omega (arith, h .x-small);
-        w-fits = omega (arith, passed y);
-        times-y = size-fits w64 (f .slope *ℤ pos (y + 1)) (omega arith);
-        mixed = size-fits w64 (f .slope *ℤ pos (y + 1) +ℤ f .constant) (omega (arith, mixed-size y l));
-        times-w = size-fits w64 (lineFactor f weights y) (omega (arith, factor-size y l, passed y));
-      }
-
-  -- the entry that severity y + 1 reads
-  abbrev entry : ℕ → Entry
-  entry y = row (x - (y + 1))
-
-  weighted-size : (y : ℕ) → y < x → (natAbs (scaled (lineFactor f weights y) (entry y) .low) ≤ getD weights y 0 * 2000000000000000)
-      × (natAbs (scaled (lineFactor f weights y) (entry y) .high) ≤ getD weights y 0 * 2000000000000000)
-      × (natAbs (scaled (lineFactor f weights y) (entry y) .bound) ≤ getD weights y 0 * 1000000000000000)
-  weighted-size y l =
+  summand-size : (y : ℕ) → y < x → (natAbs (summand y .low) ≤ getD weights y 0 * 2000000000000000)
+      × (natAbs (summand y .high) ≤ getD weights y 0 * 2000000000000000) × (natAbs (summand y .bound) ≤ getD weights y 0 * 1000000000000000)
+  summand-size y l =
       let small = h .row-small (x - (y + 1)) (omega arith) in
-      let s = scaled-size (entry y) small (lineFactor f weights y) (getD weights y 0 * 1000000) (factor-size y l) in
+      let size = factor-size f factor-small weights y (omega (arith, h .x-small)) in
+      let s = scaled-size (row (x - (y + 1))) small (lineFactor f weights y) (getD weights y 0 * 1000000) size in
       (omega (arith, s .0), omega (arith, s .1), omega (arith, s .2))
 
-  pub record Running (n : ℕ) : Type 0 where
-    pub low : natAbs (at n .low) ≤ natAbs (sums .low) + sumℕ n (λ y. getD weights y 0) * 2000000000000000
-    pub high : natAbs (at n .high) ≤ natAbs (sums .high) + sumℕ n (λ y. getD weights y 0) * 2000000000000000
-    pub bound : natAbs (at n .bound) ≤ natAbs (sums .bound) + sumℕ n (λ y. getD weights y 0) * 1000000000000000
+  -- the sums that at most a whole term was added to
+  abbrev Grown : Entry → Type 0
+  Grown e = (natAbs (e .low) ≤ natAbs (sums .low) + 2000000000000000000) × (natAbs (e .high) ≤ natAbs (sums .high) + 2000000000000000000)
+      × (natAbs (e .bound) ≤ natAbs (sums .bound) + 1000000000000000000)
 
-  running : (n : ℕ) → n ≤ x → Running n
-  running n k = record {
-    low = running-size (λ e. e .low) (λ d e. refl) sums _ _ 2000000000000000 n (λ y l. weighted-size y (omega arith) .0);
-    high = running-size (λ e. e .high) (λ d e. refl) sums _ _ 2000000000000000 n (λ y l. weighted-size y (omega arith) .1);
-    bound = running-size (λ e. e .bound) (λ d e. refl) sums _ _ 1000000000000000 n (λ y l. weighted-size y (omega arith) .2);
-  }
+  -- after n severities
+  grown : (n : ℕ) → n ≤ x → Grown (accumulate sums plus n summand)
+  grown n k =
+      let w = NL.le-trans (first-weights n weights) (h .weights-small) in (
+        omega (arith, running-size (λ e. e .low) (λ d e. refl) sums summand _ 2000000000000000 n (λ y l. summand-size y (omega arith) .0)),
+        omega (arith, running-size (λ e. e .high) (λ d e. refl) sums summand _ 2000000000000000 n (λ y l. summand-size y (omega arith) .1)),
+        omega (arith, running-size (λ e. e .bound) (λ d e. refl) sums summand _ 1000000000000000 n (λ y l. summand-size y (omega arith) .2)),
+      )
 
-  pub add-room : (y : ℕ) → y < x → AddRoom (at y) (lineFactor f weights y) (entry y .low) (entry y .high) (entry y .bound)
-  add-room y l =
-      let z = lineFactor f weights y in
-      let e = entry y in
-      let small = h .row-small (x - (y + 1)) (omega arith) in
-      let r = running y (omega arith) in
-      let w = passed y in
-      let low = size-mul-le z (e .low) (getD weights y 0 * 1000000) (2 * unit) (factor-size y l) (small .low) in
-      let high = size-mul-le z (e .high) (getD weights y 0 * 1000000) (2 * unit) (factor-size y l) (small .high) in
-      let bound = size-mul-le z (e .bound) (getD weights y 0 * 1000000) unit (factor-size y l) (small .bound) in
+  pub grown-fits : (n : ℕ) → n ≤ x → EntryFits (accumulate sums plus n summand)
+  grown-fits n k =
+      let g = grown n k in
       record {
-        times-low = size-fits w64 (z *ℤ e .low) (omega arith);
-        times-high = size-fits w64 (z *ℤ e .high) (omega arith);
-        times-bound = size-fits w64 (z *ℤ e .bound) (omega arith);
-        low-low = sum-fits (at y .low) (z *ℤ e .low) (omega (arith, r .low, h .low-sum));
-        low-high = sum-fits (at y .low) (z *ℤ e .high) (omega (arith, r .low, h .low-sum));
-        high-low = sum-fits (at y .high) (z *ℤ e .low) (omega (arith, r .high, h .high-sum));
-        high-high = sum-fits (at y .high) (z *ℤ e .high) (omega (arith, r .high, h .high-sum));
-        bound-up = sum-fits (at y .bound) (z *ℤ e .bound) (omega (arith, r .bound, h .bound-sum));
-        bound-down = difference-fits (at y .bound) (z *ℤ e .bound) (omega (arith, r .bound, h .bound-sum));
+        low = size-fits w64 _ (omega (arith, g .0, h .low-sum));
+        high = size-fits w64 _ (omega (arith, g .1, h .high-sum));
+        bound = size-fits w64 _ (omega (arith, g .2, h .bound-sum));
       }
 
   -- the whole term
-  pub term-size : (natAbs (termSums sums (lineFactor f weights) x weights row .low) ≤ natAbs (sums .low) + 2000000000000000000)
-      × (natAbs (termSums sums (lineFactor f weights) x weights row .high) ≤ natAbs (sums .high) + 2000000000000000000)
-      × (natAbs (termSums sums (lineFactor f weights) x weights row .bound) ≤ natAbs (sums .bound) + 1000000000000000000)
-  term-size =
-      let n = min x (length weights) in
-      let r = running n (omega arith) in
-      let w = NL.le-trans (first-weights n weights) (h .weights-small) in
-      (omega (arith, r .low), omega (arith, r .high), omega (arith, r .bound))
+  pub term-size : Grown (termSums sums (lineFactor f weights) x weights row)
+  term-size = grown (min x (length weights)) (omega arith)

@@ -2,7 +2,7 @@
 use mathlib.Core.Bool.{Bool, _||_}
 use Prim.Native.Nat.{ℕ, _*_}
 use lib.Dec.{ltb}
-use lib.IntN.{ℤ, pos, negsuc, natAbs, _+ℤ_, _*ℤ_}
+use lib.IntN.{ℤ, pos, negsuc, negℤ, natAbs, _+ℤ_, _*ℤ_}
 use lib.Signed.{ltZ}
 use Rattle.algebra.specs.Sum.{accumulate}
 use Rattle.outward.specs.Division.{floorDiv, ceilDiv}
@@ -14,6 +14,13 @@ none = record { low = pos 0; high = pos 0; bound = pos 0 }
 
 abbrev pub plus : Entry → Entry → Entry
 plus e f = record { low = e .low +ℤ f .low; high = e .high +ℤ f .high; bound = e .bound +ℤ f .bound }
+
+-- the negatives of the numbers from low to high are those from -high to -low
+abbrev pub opposite : Entry → Entry
+opposite e = record { low = negℤ (e .high); high = negℤ (e .low); bound = e .bound }
+
+abbrev pub minus : Entry → Entry → Entry
+minus e f = plus e (opposite f)
 
 -- f 0 + f 1 + .. + f (n - 1)
 abbrev pub sumOf : ℕ → (ℕ → Entry) → Entry

@@ -1,7 +1,10 @@
 // Entries, each a low and a high with a bound on their gap, and the outward rule's sums of them.
 
-pub mod rule; // rule.rt: a factor times an entry, the division of sums, the faults of an entry
-pub mod term; // term.rt: one pass over the severities
+pub mod pass; // pass.rt: one pass over the severities
+mod raised; // raised.rt: the sums over a run, in natural numbers
+pub mod rule; // rule.rt: sums and differences of entries, the division of sums, the faults of an entry
+mod run; // run.rt: severities next to each other whose factors have one sign
+pub mod term; // term.rt: the factor of a term
 
 // An entry of a row, in units.
 pub struct Entry {

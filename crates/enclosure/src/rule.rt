@@ -9,29 +9,32 @@ ghost use lib.Signed.{_≤ℤ_};
 ghost use mir.Syntax.{w64};
 ghost use mir.Val.{SFits};
 ghost use Rattle.outward.specs.Division.{ceilDiv};
-ghost use Rattle.enclosure.specs.Entry.{plus, scaled, rounded, beyond, outOfRange, boundTooLarge};
-ghost use Rattle.enclosure.specs.Term.{AddRoom};
+ghost use Rattle.enclosure.specs.Entry.{plus, minus, rounded, beyond, outOfRange, boundTooLarge};
+ghost use Rattle.enclosure.specs.Run.{EntryFits};
 
 // U, which stands for chance 1.
 pub const UNIT: i64 = 1_000_000_000;
 
-// The sums with a factor times an entry added: a factor below 0 takes the entry's other end.
-pub fn add_scaled(sums: Entry, factor: i64, low: i64, high: i64, bound: i64) -> Entry
-    requires { ⌜ AddRoom sums factor low high bound ⌝ }
-    ensures { λ r. ⌜ r ≡ plus sums (scaled factor (record { low = low; high = high; bound = bound })) ⌝ }
+pub fn add(a: Entry, b: Entry) -> Entry
+    requires { ⌜ EntryFits (plus a b) ⌝ }
+    ensures { λ r. ⌜ r ≡ plus a b ⌝ }
 {
-    if factor < 0 {
-        Entry {
-            low: sums.low + factor * high,
-            high: sums.high + factor * low,
-            bound: sums.bound - factor * bound,
-        }
-    } else {
-        Entry {
-            low: sums.low + factor * low,
-            high: sums.high + factor * high,
-            bound: sums.bound + factor * bound,
-        }
+    Entry {
+        low: a.low + b.low,
+        high: a.high + b.high,
+        bound: a.bound + b.bound,
+    }
+}
+
+// The low of a difference is a low less a high.
+pub fn subtract(a: Entry, b: Entry) -> Entry
+    requires { ⌜ EntryFits (minus a b) ⌝ }
+    ensures { λ r. ⌜ r ≡ minus a b ⌝ }
+{
+    Entry {
+        low: a.low - b.high,
+        high: a.high - b.low,
+        bound: a.bound + b.bound,
     }
 }
 

@@ -1,0 +1,110 @@
+-- What the crate's inner functions ask for and work on: runs of a term's severities, and the sums over a run in natural numbers.
+use mathlib.Core.Bool.{Bool, cond}
+use mathlib.Core.List.{List}
+use mathlib.Core.Path.{_≡_}
+use Prim.Native.Nat.{ℕ, _+_, _-_, _*_, _^_, _≤_, _<_}
+use lib.IntN.{ℤ, pos, natAbs, negℤ, _+ℤ_, _-ℤ_, _*ℤ_}
+use lib.Signed.{_≤ℤ_}
+use lib.ListN.{length}
+use mir.Syntax.{w64}
+use mir.Val.{SFits}
+use Rattle.algebra.specs.Sum.{accumulateBack}
+use Rattle.exact.specs.Severity.{totalWeight}
+use Rattle.enclosure.specs.declared.Entry.{Entry}
+use Rattle.enclosure.specs.declared.raised.Raised.{Raised}
+use Rattle.enclosure.specs.declared.run.Run.{Run}
+use Rattle.enclosure.specs.declared.term.Factor.{Factor}
+use Rattle.enclosure.specs.Entry.{unit, none, plus, scaled}
+use Rattle.enclosure.specs.Term.{Small, lineAt, lineFactor}
+
+-- ---- numbers that fit
+pub record EntryFits (e : Entry) : Type 0 where
+  pub low : SFits w64 (e .low)
+  pub high : SFits w64 (e .high)
+  pub bound : SFits w64 (e .bound)
+
+pub record FactorSmall (f : Factor) : Type 0 where
+  pub constant-small : natAbs (f .constant) ≤ 500000
+  pub slope-small : natAbs (f .slope) ≤ 1000
+
+-- ---- where a term's factors change sign
+abbrev pub negative : Factor → Factor
+negative f = record { constant = negℤ (f .constant); slope = negℤ (f .slope) }
+
+-- the factor whose line is zero or more on a run
+abbrev pub upright : Factor → Bool → Factor
+upright f below = cond below (negative f) f
+
+-- a run from severity from + 1 on, to `last` at most: at both of its ends, and so between them, the line has one sign
+pub record NextRun (f : Factor) (from last : ℕ) (run : Run) : Type 0 where
+  pub starts : run .from ≡ from
+  pub grows : from < run .to
+  pub within : run .to ≤ last
+  pub first : pos 0 ≤ℤ lineAt (upright f (run .negative)) (from + 1)
+  pub final : pos 0 ≤ℤ lineAt (upright f (run .negative)) (run .to)
+
+-- ---- the sums over a run, of the severities `to`, to - 1, .., from + 1
+abbrev pub runSums : Factor → ℕ → ℕ → ℕ → List ℕ → (ℕ → Entry) → Entry
+runSums f from to x weights row =
+    accumulateBack none plus to (to - from) (λ y. scaled (lineFactor f weights y) (row (x - (y + 1))))
+
+-- raised by 2U no number is below zero
+abbrev pub raised : ℤ → ℕ
+raised z = natAbs (z +ℤ pos (2 * unit))
+
+-- a factor of size n times a raised entry
+abbrev pub raisedTerm : ℕ → Entry → Raised
+raisedTerm n e = record { low = n * raised (e .low); high = n * raised (e .high); bound = n * raised (e .bound); factors = n }
+
+abbrev pub raisedNone : Raised
+raisedNone = record { low = 0; high = 0; bound = 0; factors = 0 }
+
+abbrev pub raisedPlus : Raised → Raised → Raised
+raisedPlus r s = record {
+  low = r .low + s .low;
+  high = r .high + s .high;
+  bound = r .bound + s .bound;
+  factors = r .factors + s .factors;
+}
+
+-- the raised entry that severity y + 1 reads, times its factor's size
+abbrev pub raisedAt : Factor → ℕ → List ℕ → (ℕ → Entry) → ℕ → Raised
+raisedAt f x weights row y = raisedTerm (natAbs (lineFactor f weights y)) (row (x - (y + 1)))
+
+-- over the last n of the first `to` severities
+abbrev pub raisedSums : Factor → ℕ → ℕ → ℕ → List ℕ → (ℕ → Entry) → Raised
+raisedSums f to n x weights row = accumulateBack raisedNone raisedPlus to n (raisedAt f x weights row)
+
+-- 2U times each factor comes off again
+abbrev pub lowered : Raised → Entry
+lowered r =
+    let excess = pos (r .factors) *ℤ pos (2 * unit) in
+    record { low = pos (r .low) -ℤ excess; high = pos (r .high) -ℤ excess; bound = pos (r .bound) -ℤ excess }
+
+-- ---- what they ask for
+-- the limits of a term, and a line that is zero or more at both ends of the run
+pub record RunRoom (f : Factor) (from to x : ℕ) (weights : List ℕ) (row : ℕ → Entry) : Type 0 where
+  pub factor-small : FactorSmall f
+  pub x-small : x ≤ 500
+  pub weights-small : totalWeight weights ≤ 1000
+  pub row-small : (z : ℕ) → z < x → Small (row z)
+  pub in-order : from ≤ to
+  pub below-x : to ≤ x
+  pub weighted : to ≤ length weights
+  pub first : pos 0 ≤ℤ lineAt f (from + 1)
+  pub final : pos 0 ≤ℤ lineAt f to
+
+-- what the raised sums of a run come to at most
+pub record RaisedSmall (r : Raised) : Type 0 where
+  pub low-small : r .low ≤ 4000000000000000000
+  pub high-small : r .high ≤ 4000000000000000000
+  pub bound-small : r .bound ≤ 4000000000000000000
+  pub factors-small : r .factors ≤ 1000000000
+
+-- a factor of size n, an entry, and the sums with their product
+pub record AddRoom (r : Raised) (n : ℕ) (e : Entry) : Type 0 where
+  pub factor-small : n < 2 ^ 32
+  pub low-small : natAbs (e .low) ≤ 2 * unit
+  pub high-small : natAbs (e .high) ≤ 2 * unit
+  pub bound-small : natAbs (e .bound) ≤ 2 * unit
+  pub sums-small : RaisedSmall (raisedPlus r (raisedTerm n e))
