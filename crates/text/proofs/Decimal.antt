@@ -147,28 +147,22 @@ unfolding digitsWithin
 digits-small zero n h = refl
 digits-small (suc steps) n h = rw (lt-ltb n 10 h)
 
+-- a number above 9 has the digits of its tenth, and one more
+pub digits-last : (steps n : ℕ) → 10 ≤ n → digitsWithin (suc steps) n ≡ digitsWithin steps (n / 10) ++ digit (n % 10)
+unfolding digitsWithin
+digits-last steps n h = rw (le-ltb n 10 h)
+
+-- where the steps are enough for it, one less is enough for its tenth
+pub tenth-within : (steps n : ℕ) → 10 ≤ n → n < 10 ^ suc steps → (0 < steps) × (n / 10 < 10 ^ steps)
+tenth-within zero n h k = absurd (omega arith)
+tenth-within (suc steps) n h k = (omega arith, omega arith)
+
 -- a number with one digit more
 digits-next : (steps n d : ℕ) → 0 < n → d < 10 → digitsWithin (suc steps) (n * 10 + d) ≡ digitsWithin steps n ++ digit d
-unfolding digitsWithin
 digits-next steps n d h k =
     let tenth : (n * 10 + d) / 10 ≡ n = omega arith in
     let last : (n * 10 + d) % 10 ≡ d = omega arith in
-    rw (le-ltb (n * 10 + d) 10 (omega arith), tenth, last)
-
--- a step more than is needed changes nothing
-steps-enough : (steps n : ℕ) → n < 10 ^ suc steps → digitsWithin (suc steps) n ≡ digitsWithin steps n
-unfolding digitsWithin
-steps-enough zero n h = rw (lt-ltb n 10 h)
-steps-enough (suc steps) n h =
-    ap (λ (w : List ℕ). cond (ltb n 10) (digit n) (w ++ digit (n % 10))) (steps-enough steps (n / 10) (omega arith))
-
--- so a number of 64 bits has the digits of its tenth, and one more
-pub digits-last : (n : ℕ) → 10 ≤ n → n < 2 ^ 64 → digits n ≡ digits (n / 10) ++ digit (n % 10)
-digits-last n h k =
-    let parts : n ≡ n / 10 * 10 + n % 10 = omega arith in
-    ap digits parts
-    ∙ digits-next 18 (n / 10) (n % 10) (omega arith) (omega arith)
-    ∙ ap (λ (w : List ℕ). w ++ digit (n % 10)) (sym (steps-enough 18 (n / 10) (omega arith)))
+    rw (tenth, last) at (digits-last steps (n * 10 + d) (omega arith))
 
 -- and with all digits of w more: then it is not 0
 digits-more : (steps n : ℕ) (w : List ℕ) → (0 < length w → 0 < n) → every isDigit w ≡ true

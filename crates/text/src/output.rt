@@ -3,7 +3,9 @@
 
 ghost use mathlib.Core.List.{[], _∷_};
 ghost use mathlib.Core.Path.{_≡_};
+ghost use Prim.Native.Nat.{_<_};
 ghost use lib.IntN.{natAbs};
+ghost use lib.ListN.{length, drop};
 ghost use Rattle.text.specs.Bytes.{space};
 ghost use Rattle.text.specs.Numbers.{digits, decimal};
 ghost use Rattle.text.specs.Output.{output, Puts};
@@ -29,15 +31,29 @@ pub fn put_bytes(out: &mut [u8], at: usize, bytes: &[u8]) -> usize
     next
 }
 
-// The digits of a number: those of its tenth, and then its last.
+// Writes the digits of `n` into the last places of `bytes`, and answers the place of the first. 20 digits hold every number of 64 bits.
+fn fill_digits(bytes: &mut [u8], n: u64) -> usize
+    requires { ⌜ length (now bytes) ≡ 20 ⌝ }
+    ensures { λ r. ⌜ r < 20 ⌝ }
+    ensures { λ r. ⌜ drop r (now (bytes .exit)) ≡ digits n ⌝ }
+{
+    let mut first = 19;
+    let mut rest = n;
+    while 10 <= rest {
+        bytes[first] = b'0' + (rest % 10) as u8;
+        first = first - 1;
+        rest = rest / 10;
+    }
+    bytes[first] = b'0' + rest as u8;
+    first
+}
+
 pub fn put_digits(out: &mut [u8], at: usize, n: u64) -> usize
     ensures { λ r. ⌜ Puts (digits n) (output (now (out .entry)) at) (output (now (out .exit)) r) ⌝ }
 {
-    if n < 10 {
-        return put_byte(out, at, b'0' + n as u8);
-    }
-    let next = put_digits(out, at, n / 10);
-    put_byte(out, next, b'0' + (n % 10) as u8)
+    let mut bytes = [0u8; 20];
+    let first = fill_digits(&mut bytes, n);
+    put_bytes(out, at, &bytes[first..])
 }
 
 // A negative number's size is taken one short, which fits, and then made whole.
