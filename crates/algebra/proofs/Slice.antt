@@ -8,12 +8,17 @@ use native.Mathlib.Numerals.{add-one}
 use native.Mathlib.Omega.{arith}
 use lib.ListN.{length, set, getD, drop, length-append, length-drop, List·getD-append}
 use lib.Seq.{getD-at, take-all, drop-cons, set-append-seam}
-use Rattle.algebra.specs.Slice.{listed, DropNext, PartToEnd, ListedLength, ListedAt}
+use Rattle.algebra.specs.Slice.{listed, DropNext, DropSet, PartToEnd, ListedLength, ListedAt}
 use Rattle.algebra.specs.Slice.{WrittenLength, WrittenNext}
 
 module _ {A : Type 0} where
   pub drop-next : DropNext A
   drop-next l i d h = drop-cons l i d h ∙ ap (λ (k : ℕ). getD l i d ∷ drop k l) (sym (add-one i))
+
+  pub drop-set : DropSet A
+  drop-set [] i v h = absurd (NL.not-suc-le-zero h)
+  drop-set (x ∷ l) zero v h = refl
+  drop-set (x ∷ l) (suc i) v h = drop-set l i v (NL.le-of-suc-le-suc h)
 
   pub part-to-end : PartToEnd A
   part-to-end l a = take-all (length l - a) (drop a l) (simp length-drop (omega arith))

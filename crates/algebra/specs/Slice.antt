@@ -18,6 +18,10 @@ module _ (A : Type 0) where
   abbrev pub DropNext : Type 0
   DropNext = (l : List A) (i : ℕ) (d : A) → i < length l → drop i l ≡ getD l i d ∷ drop (i + 1) l
 
+  -- a list from i on, after v was stored there
+  abbrev pub DropSet : Type 0
+  DropSet = (l : List A) (i : ℕ) (v : A) → i < length l → drop i (set l i v) ≡ v ∷ drop (suc i) l
+
   -- the part from a to the end is the list from a on
   abbrev pub PartToEnd : Type 0
   PartToEnd = (l : List A) (a : ℕ) → take (length l - a) (drop a l) ≡ drop a l

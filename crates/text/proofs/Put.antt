@@ -2,10 +2,10 @@
 -- behind those before it, as long as the row has places.
 use mathlib.Core.Path.{_≡_, refl, sym, ap, _∙_}
 use mathlib.Core.List.{List, [], _∷_, _++_, append-nil, append-assoc}
-use Prim.Native.Nat.{ℕ, zero, suc, _+_, _≤_, _<_, min}
-use native.Mathlib.Nat.{min-eq-left, min-eq-right, not-suc-le-zero, le-of-suc-le-suc}
+use Prim.Native.Nat.{ℕ, suc, _+_, _≤_, _<_, min}
+use native.Mathlib.Nat.{min-eq-left, min-eq-right}
 use native.Mathlib.Omega.{arith}
-use lib.ListN.{length, set, drop, length-append}
+use lib.ListN.{length, set, length-append}
 use lib.Seq.{set-out}
 use Rattle.algebra.specs.Slice.{written}
 use Rattle.algebra.proofs.Slice.{written-length, written-next}
@@ -57,9 +57,3 @@ put-behind row front (b ∷ text) h =
 
 pub put-whole : PutWhole
 put-whole row text h = put-behind row [] text h
-
--- ---- a row from a place on, after a byte was stored there
-pub drop-set-same : (row : List ℕ) (at b : ℕ) → at < length row → drop at (set row at b) ≡ b ∷ drop (suc at) row
-drop-set-same [] at b h = absurd (not-suc-le-zero h)
-drop-set-same (x ∷ row) zero b h = refl
-drop-set-same (x ∷ row) (suc at) b h = drop-set-same row at b (le-of-suc-le-suc h)

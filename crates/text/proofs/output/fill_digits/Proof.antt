@@ -6,9 +6,9 @@ use Prim.Native.Nat.{ℕ, suc, _≤_, _<_, _+_, _-_, _/_, _%_, _^_}
 use native.Mathlib.Omega.{arith}
 use lib.ListN.{length, set, drop, drop-of-length-le}
 use borrow.Author.Needs.{needs}
+use Rattle.algebra.proofs.Slice.{drop-set}
 use Rattle.text.specs.Numbers.{zeroDigit, digitsWithin, digits}
 use Rattle.text.proofs.Decimal.{digits-small, digits-last, tenth-within}
-use Rattle.text.proofs.Put.{drop-set-same}
 use Rattle.text.proofs.output.fill_digits.Statement.{statement}
 use Rattle.text.proofs.output.fill_digits.Tie as tie
 
@@ -36,7 +36,7 @@ loop-again c =
     let tenth = tenth-within first rest above (turn .inv .2) in
     let back : suc (first - 1) ≡ first = omega (arith, tenth .0) in
     let left = ap (λ (k : ℕ). digitsWithin k rest) (sym back) ∙ digits-last (first - 1) rest above in
-    let behind = ap (λ (k : ℕ). drop k (set (turn .bytes) first last)) back ∙ drop-set-same (turn .bytes) first last (search needs) in (
+    let behind = ap (λ (k : ℕ). drop k (set (turn .bytes) first last)) back ∙ drop-set (turn .bytes) first last (search needs) in (
       search needs,
       search needs,
       rw back (tenth .1),
@@ -47,7 +47,7 @@ returns : tie.Need-returns Inv-loop μ-loop
 returns c =
     let end = c .before .loop in
     let one = digits-small (end .first) (end .rest) (omega arith) in
-    (search needs, drop-set-same (end .bytes) (end .first) _ (search needs) ∙ (rw one at (end .inv .3)))
+    (search needs, drop-set (end .bytes) (end .first) _ (search needs) ∙ (rw one at (end .inv .3)))
 
 pub fill-digits-spec : {M : Type 1} → statement M
 fill-digits-spec =
