@@ -4,6 +4,7 @@ pub mod Semiring
 pub mod Sum
 pub mod Natural
 pub mod Integer
+pub mod Line
 pub mod Size
 pub mod Ring
 pub mod Solver

@@ -7,6 +7,7 @@ pub mod Sum
 pub mod Fraction
 pub mod Rational
 pub mod Size
+pub mod Line
 pub mod Solver
 pub mod Smallest
 pub mod Slice
