@@ -2,6 +2,5 @@
 pub mod Enclosure
 pub mod Gap
 pub mod Bounds
-pub mod Call
 pub mod Accuracy
 pub mod Query

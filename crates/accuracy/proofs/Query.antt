@@ -1,6 +1,6 @@
 -- The rows' first X+1 places are what the job shows. These entries are in order, as the exact amounts lie between them, and small, as none
 -- has a fault; so the level query does not refuse them, and encloses the quantile of the exact amounts.
-use mathlib.Core.Path.{_≡_, refl, sym, subst}
+use mathlib.Core.Path.{_≡_, refl, sym}
 use mathlib.Core.Bool.{false}
 use mathlib.Core.List.{List, [], _∷_}
 use Prim.Native.Nat.{ℕ, _+_, _≤_, _<_}
@@ -18,15 +18,13 @@ use Rattle.algebra.proofs.Value.{≼-refl, ≼-trans, whole-mono, le-of-whole}
 use Rattle.model.specs.declared.Job.{Job}
 use Rattle.model.specs.Answer.{condition, firstOf}
 use Rattle.model.proofs.Answer.{inside}
-use Rattle.enclosure.specs.Term.{Small}
 use Rattle.compound.specs.Call.{Lent, curveLent}
-use Rattle.compound.proofs.Filled.{small}
+use Rattle.compound.proofs.Accepted.{limits, entry-small, lows-long, highs-long}
 use Rattle.quantile.specs.Call.{wrongLengths, wrongLevel, wrongAt, firstWrong, unreached, quantiles}
 use Rattle.quantile.specs.Enclosed.{Enclose}
 use Rattle.quantile.proofs.Enclosed.{quantile-enclosed}
 use Rattle.accuracy.specs.Accuracy.{Accepted, Divisible, shown, amount}
 use Rattle.accuracy.specs.Query.{lows, highs, RowsNotRefused, RowsEnclose, EnclosesQuantile}
-use Rattle.accuracy.proofs.Call.{limits, no-fault, shows, lows-long, highs-long}
 use Rattle.accuracy.proofs.Accuracy.{accepted-divisible, encloses}
 
 module _ (job : Job) (weights : List ℕ) (lent : Lent) (ok : Accepted job weights lent) where
@@ -69,13 +67,9 @@ module _ (job : Job) (weights : List ℕ) (lent : Lent) (ok : Accepted job weigh
       let between = encloses job weights lent ok (accepted-divisible job weights lent ok) x l s (≼-refl s) t in
       le-of-whole (≼-trans (between .0) (between .1))
 
-  entry-small : (x : ℕ) → x < places → Small (shown job weights lent x)
-  entry-small x l = subst Small (sym (shows job weights lent ok x (omega arith)))
-      (small job weights (limits job weights lent ok) 0 x (limits job weights lent ok .law .order-least) (no-fault job weights lent ok x l))
-
   right-entry : (x : ℕ) → x < places → wrongAt low high x ≡ false
   right-entry x l =
-      let small = entry-small x l in
+      let small = entry-small job weights lent ok x l in
       simp (getD-take, le-ltb _ _ (small .low), le-ltb _ _ (small .high), ≤ℤ-ltZ _ _ (ordered x (omega arith)))
 
   right-entries : firstWrong low high ≡ length low

@@ -1,5 +1,5 @@
 -- Proofs that the functions of the crate share, bottom up: the checks; the rule and what it preserves; the rows where they lie, the sums of
--- a total, totals one after the other; what the call returns.
+-- a total, totals one after the other; what the call returns, and what an acceptance says.
 pub mod Tests
 pub mod Call
 pub mod Recursion
@@ -11,3 +11,4 @@ pub mod Sums
 pub mod Advanced
 pub mod Filled
 pub mod Returned
+pub mod Accepted

@@ -1,8 +1,9 @@
--- What an acceptance says: every check was passed and no entry has a fault, so the lent rows are long enough, and hold row 0 of the curve.
-use mathlib.Core.Path.{_≡_, _∙_, ap}
+-- What an acceptance says: every check was passed and no entry has a fault, so the lent rows are long enough, and hold row 0 of the curve,
+-- whose entries are small.
+use mathlib.Core.Path.{_≡_, sym, _∙_, ap, subst}
 use mathlib.Core.Bool.{Bool, cond}
 use mathlib.Core.List.{List}
-use Prim.Native.Nat.{ℕ, _+_, _≤_}
+use Prim.Native.Nat.{ℕ, _+_, _≤_, _<_}
 use native.Mathlib.Nat as NL
 use native.Mathlib.Omega.{arith}
 use borrow.Author.Tests.{ltb-false}
@@ -16,13 +17,14 @@ use Rattle.model.specs.declared.Job.{Job}
 use Rattle.model.specs.Answer.{accepted, firstOf}
 use Rattle.model.proofs.Answer.{passed as condition-passed, first-passed}
 use Rattle.enclosure.specs.declared.Entry.{Entry}
+use Rattle.enclosure.specs.Term.{entryOf, Small}
 use Rattle.compound.specs.Curve.{curveRows}
 use Rattle.compound.specs.Call.{Lent, checks, faultAt, firstFault, faults, curveAnswer, rowAfter, ran, curveLent}
 use Rattle.compound.specs.Room.{Limits, LongEnough}
 use Rattle.compound.proofs.Call.{checked-limits}
-use Rattle.accuracy.specs.Accuracy.{Accepted, shown}
+use Rattle.compound.proofs.Filled.{small}
 
-module _ (job : Job) (weights : List ℕ) (lent : Lent) (ok : Accepted job weights lent) where
+module _ (job : Job) (weights : List ℕ) (lent : Lent) (ok : curveAnswer job weights lent ≡ accepted) where
   passed : Limits job weights × LongEnough (job .last + 1) lent × (firstOf (faults job weights) ≡ accepted)
   unfolding curveAnswer
   passed = checked-limits job weights lent (faults job weights) ok
@@ -30,7 +32,7 @@ module _ (job : Job) (weights : List ℕ) (lent : Lent) (ok : Accepted job weigh
   pub limits : Limits job weights
   limits = passed .0
 
-  pub no-fault : FailBelow (faultAt (job .law .order) (curveRows job weights)) (job .last + 1)
+  no-fault : FailBelow (faultAt (job .law .order) (curveRows job weights)) (job .last + 1)
   unfolding firstFault
   no-fault =
       let nine = condition-passed _ _ _ _ (passed .2) in
@@ -61,12 +63,19 @@ module _ (job : Job) (weights : List ℕ) (lent : Lent) (ok : Accepted job weigh
       (omega (arith, listed-length (entry column) (job .last + 1)))
       ∙ listed-at (entry column) (job .last + 1) x (pos 0) (omega arith)
 
-  pub shows : (x : ℕ) → x ≤ job .last → shown job weights lent x ≡ curveRows job weights 0 x
+  -- the entry at total x of the lent rows on return
+  abbrev pub shown : ℕ → Entry
+  shown = entryOf (curveLent job weights lent .low) (curveLent job weights lent .high) (curveLent job weights lent .bound)
+
+  pub shows : (x : ℕ) → x ≤ job .last → shown x ≡ curveRows job weights 0 x
   shows x l = rw lent-ran (λ i. record {
     low = row-at (λ e. e .low) (lent .low) x l i;
     high = row-at (λ e. e .high) (lent .high) x l i;
     bound = row-at (λ e. e .bound) (lent .bound) x l i;
   })
+
+  pub entry-small : (x : ℕ) → x < job .last + 1 → Small (shown x)
+  entry-small x l = subst Small (sym (shows x (omega arith))) (small job weights limits 0 x (limits .law .order-least) (no-fault x l))
 
   -- a lent row that is long enough still is on return
   row-long : (column : Entry → ℤ) (row : List ℤ) → job .last + 1 ≤ length row
