@@ -1,15 +1,15 @@
 -- Limits are checked before room is: the reader refuses more than 500 weights before it looks at its row's places, and the curve more than
--- 501 totals before it looks at its rows'. So at most 501 lines are written, of at most 88 bytes each, since a number has at most 21. An
--- input that is cut off was too long, and still is.
+-- 501 totals before it looks at its rows'. So a table has at most 501 lines, of at most 40 bytes each, since its totals and the entries of
+-- an accepted job are small. An input that is cut off was too long, and still is.
 use mathlib.Core.Path.{_≡_, refl, sym, _∙_, ap, subst}
 use mathlib.Core.Bool.{Bool, true, false, _&&_, cond, false≢true, or-true}
-use mathlib.Core.List.{List, [], _∷_, _++_, map}
+use mathlib.Core.List.{List, [], _∷_, _++_}
 use mathlib.Core.Option.{Option, none, some}
 use Prim.Native.Nat.{ℕ, zero, suc, _+_, _*_, _≤_, _<_}
 use native.Mathlib.Nat as NL
 use native.Mathlib.Omega.{arith}
-use borrow.Author.Tests.{ltb-true, ltb-false, lt-ltb, le-ltb, eqb-true}
-use lib.Dec.{eqb, ltb}
+use borrow.Author.Tests.{ltb-true, ltb-false, lt-ltb, le-ltb}
+use lib.Dec.{eqb, ltb, eqb·suc-zero}
 use lib.IntN.{ℤ, pos}
 use lib.ListN.{length, take, length-append, length-replicate}
 use lib.Seq.{take-all, length-take-le}
@@ -17,19 +17,22 @@ use Rattle.algebra.specs.Table.{sameList}
 use Rattle.model.specs.declared.Law.{Law}
 use Rattle.model.specs.declared.Start.{Start}
 use Rattle.model.specs.declared.Job.{Job}
-use Rattle.model.specs.Answer.{Answer, accepted, refused, isAccepted, condition, firstOf, outside}
+use Rattle.model.specs.Answer.{Answer, accepted, refused, isAccepted, outside}
 use Rattle.model.proofs.Answer.{first-none, by-first, within}
-use Rattle.text.specs.Bytes.{ascii, lineEnd}
+use Rattle.text.specs.Bytes.{lineEnd}
 use Rattle.text.specs.Lines.{before, after, has, words, spaced}
 use Rattle.text.specs.Numbers.{decimal}
 use Rattle.text.specs.Output.{lineText}
-use Rattle.text.proofs.Decimal.{decimal-short}
+use Rattle.text.proofs.Decimal.{digits-length, decimal-length, decimal-short}
 use Rattle.sheet.specs.Sheet.{LAW, TERM, START, LAST, SEVERITY, W}
 use Rattle.sheet.specs.Line.{faulty, allNumbers, ofNumbers, ofWords, line}
 use Rattle.sheet.specs.Reading.{Reading, reads, refuses, on, signed, whole, noTerms, withTerm, startOf, jobOf}
 use Rattle.sheet.specs.Reading.{weightLines, severityLine, lastLine, startLine, termLines, lawLine, reading}
-use Rattle.compound.specs.Call.{Lent, lentRows, workPlaces, tooShort, faults, curveAnswer, curveLent}
-use Rattle.report.specs.Report.{at, totalLines, tableText, refusalLine, mostTotals, mostWeights, zeros, programRows}
+use Rattle.enclosure.specs.declared.Entry.{Entry}
+use Rattle.enclosure.specs.Term.{entryOf, Small}
+use Rattle.compound.specs.Call.{lentRows, workPlaces, tooShort, curveAnswer, curveLent}
+use Rattle.compound.proofs.Accepted.{limits, entry-small}
+use Rattle.report.specs.Report.{totalLine, totalLines, refusalLine, mostTotals, mostWeights, zeros, programRows}
 use Rattle.report.specs.Report.{rowsText, curveText, readingText, reportText}
 use Rattle.report.specs.Room.{WeightsFit, TotalsFit, room, TextFits, inputBytes, InputFits}
 
@@ -111,20 +114,6 @@ weights-fit s n e =
     omega arith
 
 -- ---- the totals
--- the answer has a property where the refusals by 1 to 7 have it, and where the conditions after them give it for at most 501 totals
-after-last : (job : Job) (weights : List ℕ) (P : Answer → Type 0) → ((i place : ℕ) → i < 7 → P (refused (suc i) place))
-    → (job .last ≤ 500 → P (firstOf (condition (tooShort (job .last + 1) programRows) 8 0 ∷ faults job weights)))
-    → P (curveAnswer job weights programRows)
-unfolding curveAnswer
-after-last job weights P early later =
-    by-first P _ 1 _ _ (λ _. early 0 _ (omega arith)) λ _.
-    by-first P _ 2 _ _ (λ _. early 1 _ (omega arith)) λ _.
-    by-first P _ 3 _ _ (λ _. early 2 _ (omega arith)) λ _.
-    by-first P _ 4 _ _ (λ _. early 3 _ (omega arith)) λ _.
-    by-first P _ 5 _ _ (λ _. early 4 _ (omega arith)) λ _.
-    by-first P _ 6 _ _ (λ _. early 5 _ (omega arith)) λ _.
-    by-first P _ 7 _ _ (λ _. early 6 _ (omega arith)) λ last. later (ltb-false 500 (job .last) last)
-
 -- rows for `most` totals are long enough for fewer
 long-enough : (places most : ℕ) → places ≤ most
     → tooShort places (lentRows (zeros most) (zeros most) (zeros most) (zeros (workPlaces most))) ≡ false
@@ -133,9 +122,18 @@ long-enough places most h = simp (length-replicate, le-ltb most places h, le-ltb
 -- so the answer is an acceptance or a refusal, but by 8
 pub answers : (job : Job) (weights : List ℕ) (P : Answer → Type 0) → P accepted
     → ((i place : ℕ) → ¬ (suc i ≡ 8) → P (refused (suc i) place)) → P (curveAnswer job weights programRows)
-answers job weights P acceptance refusal = after-last job weights P (λ i place h. refusal i place (λ e. omega arith)) λ last.
-    by-first P (tooShort (job .last + 1) programRows) 8 _ _
-    (λ t. absurd (false≢true (sym (long-enough (job .last + 1) mostTotals (omega arith)) ∙ t))) λ _.
+unfolding curveAnswer
+answers job weights P acceptance refusal =
+    by-first P _ 1 _ _ (λ _. refusal 0 _ (λ e. omega arith)) λ _.
+    by-first P _ 2 _ _ (λ _. refusal 1 _ (λ e. omega arith)) λ _.
+    by-first P _ 3 _ _ (λ _. refusal 2 _ (λ e. omega arith)) λ _.
+    by-first P _ 4 _ _ (λ _. refusal 3 _ (λ e. omega arith)) λ _.
+    by-first P _ 5 _ _ (λ _. refusal 4 _ (λ e. omega arith)) λ _.
+    by-first P _ 6 _ _ (λ _. refusal 5 _ (λ e. omega arith)) λ _.
+    by-first P _ 7 _ _ (λ _. refusal 6 _ (λ e. omega arith)) λ last.
+    by-first P (tooShort (job .last + 1) programRows) 8 _ _ (λ t. absurd (false≢true (
+    sym (long-enough (job .last + 1) mostTotals (omega (arith, ltb-false 500 (job .last) last))) ∙ t
+    ))) λ _.
     by-first P _ 9 _ _ (λ _. refusal 8 _ (λ e. omega arith)) λ _.
     by-first P _ 10 _ _ (λ _. refusal 9 _ (λ e. omega arith)) λ _. rw first-none acceptance
 
@@ -143,47 +141,48 @@ pub totals-fit : TotalsFit
 totals-fit job weights = answers job weights (λ a. ¬ (a .number ≡ 8)) (λ e. omega arith) (λ i place other. other)
 
 -- ---- the text
--- a space goes before each number
-numbers-short : (zs : List ℤ) → length (spaced (map decimal zs)) ≤ 22 * length zs
-unfolding spaced
-numbers-short [] = omega arith
-numbers-short (z ∷ zs) = simp length-append (omega (arith, decimal-short z, numbers-short zs))
+-- a total has at most 3 digits; a number of a small entry has at most 10, and a sign
+total-short : (total : ℕ) (e : Entry) → total < mostTotals → Small e → length (totalLine total (e .low) (e .high) (e .bound)) ≤ 40
+unfolding lineText spaced decimal
+total-short total e few small = simp length-append (omega (
+  arith,
+  digits-length 2 total (omega arith),
+  decimal-length (e .low) (omega arith),
+  decimal-length (e .high) (omega arith),
+  decimal-length (e .bound) (omega arith),
+))
 
-line-short : (word : List ℕ) (zs : List ℤ) → length (lineText word zs) ≤ length word + 22 * length zs + 1
-unfolding lineText
-line-short word zs = simp length-append (omega (arith, numbers-short zs))
-
-lines-short : (totals : ℕ) (low high bound : List ℤ) → length (totalLines totals low high bound) ≤ 88 * totals
+lines-short : (totals : ℕ) (low high bound : List ℤ) → totals ≤ mostTotals → ((x : ℕ) → x < totals → Small (entryOf low high bound x))
+    → length (totalLines totals low high bound) ≤ 40 * totals
 unfolding totalLines
-lines-short zero low high bound = omega arith
-lines-short (suc x) low high bound =
-    let numbers = at low x ∷ at high x ∷ at bound x ∷ [] in
-    simp length-append (omega (arith, lines-short x low high bound, line-short (decimal (pos x)) numbers, decimal-short (pos x)))
-
-table-short : (totals : ℕ) (low high bound : List ℤ) → totals ≤ mostTotals → length (tableText totals low high bound) ≤ room
-table-short totals low high bound h = simp length-append (omega (arith, lines-short totals low high bound))
+lines-short zero low high bound few small = omega arith
+lines-short (suc x) low high bound few small = simp length-append (omega (
+  arith,
+  lines-short x low high bound (omega arith) (λ y l. small y (omega arith)),
+  total-short x (entryOf low high bound x) few (small x (omega arith)),
+))
 
 refusal-short : (answer : Answer) → length (refusalLine answer) ≤ room
-refusal-short answer = omega (arith, line-short (ascii "REFUSED") (pos (answer .number) ∷ pos (answer .place) ∷ []))
+unfolding lineText spaced
+refusal-short answer = simp length-append (omega (arith, decimal-short (pos (answer .number)), decimal-short (pos (answer .place))))
 
--- an accepted job has at most 501 totals
-pub accepted-last : (job : Job) (weights : List ℕ) → isAccepted (curveAnswer job weights programRows) ≡ true → job .last ≤ 500
-accepted-last job weights = after-last job weights (λ a. isAccepted a ≡ true → job .last ≤ 500)
-    (λ i place _ e. absurd (NL.suc-ne-zero i (eqb-true (suc i) 0 e))) (λ last _. last)
+module _ (job : Job) (weights : List ℕ) where
+  -- an accepted job has at most 501 totals, and its entries are small
+  table-short : curveAnswer job weights programRows ≡ accepted → length (rowsText job (curveLent job weights programRows)) ≤ room
+  table-short ok =
+      let rows = curveLent job weights programRows in
+      let few : job .last + 1 ≤ mostTotals = omega (arith, limits job weights programRows ok .last-most) in
+      simp length-append (omega (
+        arith,
+        lines-short (job .last + 1) (rows .low) (rows .high) (rows .bound) few (entry-small job weights programRows ok),
+      ))
 
-curve-short : (job : Job) (weights : List ℕ) → length (curveText job weights) ≤ room
-unfolding curveText
-curve-short job weights = by (isAccepted answer) refl
-  where
-    answer : Answer
-    answer = curveAnswer job weights programRows
-
-    rows : Lent
-    rows = curveLent job weights programRows
-
-    by : (t : Bool) → isAccepted answer ≡ t → length (cond t (rowsText job rows) (refusalLine answer)) ≤ room
-    by true e = table-short (job .last + 1) (rows .low) (rows .high) (rows .bound) (omega (arith, accepted-last job weights e))
-    by false e = refusal-short answer
+  curve-short : length (curveText job weights) ≤ room
+  unfolding curveText
+  curve-short = answers job weights
+      (λ a. curveAnswer job weights programRows ≡ a
+      → length (cond (isAccepted a) (rowsText job (curveLent job weights programRows)) (refusalLine a)) ≤ room)
+      table-short (λ i place _ _. rw (eqb·suc-zero i) (refusal-short (refused (suc i) place))) refl
 
 reading-short : (r : Reading) → length (readingText r) ≤ room
 reading-short (reads sheet) = curve-short (sheet .job) (sheet .weights)

@@ -18,7 +18,7 @@ TotalsFit = (job : Job) (weights : List ℕ) → ¬ (curveAnswer job weights pro
 
 -- the bytes of the output's buffer
 abbrev pub room : ℕ
-room = 65536
+room = 20480
 
 abbrev pub TextFits : Type 0
 TextFits = (s : List ℕ) → length (reportText s) ≤ room

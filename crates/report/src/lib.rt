@@ -19,8 +19,8 @@ const MOST_TOTALS: usize = 501;
 
 const WORK_PLACES: usize = 9 * MOST_TOTALS;
 
-// Room for every text: a line has less than 90 bytes.
-pub const ROOM: usize = 65_536;
+// Room for every text: a line of a table has at most 40 bytes.
+pub const ROOM: usize = 20_480;
 
 // The table of a job's curve, or the line that refuses the job.
 fn put_curve(out: &mut [u8], job: Job, weights: &[u64]) -> usize

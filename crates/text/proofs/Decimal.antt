@@ -66,8 +66,8 @@ length-within (suc steps) zero n h = by-size (λ w. length w ≤ 1) steps n (λ 
 length-within (suc steps) (suc k) n h = by-size (λ w. length w ≤ suc (suc k)) steps n (λ l. omega arith)
     (λ l. simp length-append (omega (arith, length-within steps k (n / 10) (omega arith))))
 
-digits-length : (n : ℕ) → n < 10 ^ 10 → length (digits n) ≤ 10
-digits-length n h = length-within 19 9 n h
+pub digits-length : (k n : ℕ) → n < 10 ^ suc k → length (digits n) ≤ suc k
+digits-length k n h = length-within 19 k n h
 
 -- and steps + 1 digits are all that is written, whatever the number
 length-most : (steps n : ℕ) → length (digitsWithin steps n) ≤ suc steps
@@ -83,7 +83,7 @@ sign-length (pos n) = omega arith
 sign-length (negsuc n) = omega arith
 
 pub decimal-length : (z : ℤ) → AtMostTenDigits z → length (decimal z) ≤ 11
-decimal-length z h = omega (arith, sign-length z, digits-length (natAbs z) h)
+decimal-length z h = omega (arith, sign-length z, digits-length 9 (natAbs z) h)
 
 pub decimal-short : (z : ℤ) → length (decimal z) ≤ 21
 decimal-short z = omega (arith, sign-length z, length-most 19 (natAbs z))
@@ -116,7 +116,7 @@ decimal-plain b h (negsuc n) = rw (ne-eqb minus b (omega arith)) (digits-plain b
 
 digits-numeral : (n : ℕ) → n < 10 ^ 10 → isNumeral (digits n) ≡ true
 digits-numeral n h =
-    rw (le-leb 1 (length (digits n)) some-digit, le-leb (length (digits n)) 10 (digits-length n h), lead) (digits-are 19 n (omega arith))
+    rw (le-leb 1 (length (digits n)) some-digit, le-leb (length (digits n)) 10 (digits-length 9 n h), lead) (digits-are 19 n (omega arith))
   where
     some-digit : 1 ≤ length (digits n)
     some-digit = by-size (λ w. 1 ≤ length w) 18 n (λ l. omega arith) (λ l. simp length-append (omega arith))

@@ -7,12 +7,12 @@ use mathlib.Core.List.{List}
 use Prim.Native.Nat.{ℕ, _≤_}
 use lib.Dec.{eqb}
 use Rattle.model.specs.declared.Job.{Job}
-use Rattle.model.specs.Answer.{accepted, refused, isAccepted}
+use Rattle.model.specs.Answer.{accepted, refused}
 use Rattle.compound.specs.declared.CurveAnswer.{CurveAnswer}
 use Rattle.compound.specs.Call.{Lent, numberOf, paper, curveAnswer, curveLent}
 use Rattle.compound.proofs.Returned.{numbered}
+use Rattle.compound.proofs.Accepted.{limits}
 use Rattle.report.specs.Report.{programRows, rowsText, refusalLine, curveText}
-use Rattle.report.proofs.Room.{accepted-last}
 use Rattle.report.proofs.put_curve.Statement.{statement}
 use Rattle.report.proofs.put_curve.Tie as tie
 
@@ -44,7 +44,7 @@ module _ (c : tie.After-enum-told) where
   accepting = answered call _ (c .enum-told .given .1)
 
   few : job call .last ≤ 500
-  few = accepted-last (job call) (weights call) (ap isAccepted (sym accepting))
+  few = limits (job call) (weights call) programRows (sym accepting) .last-most
 
 returns : tie.Need-returns
 returns c =
