@@ -1,17 +1,35 @@
 // Reads a sheet from standard input, and writes the table of its curve, or its refusal, to standard output.
 
 ghost use mathlib.Core.Path.{_≡_};
+ghost use Prim.Native.Nat.{_≤_};
 ghost use lib.ListN.{length};
 ghost use Rattle.io.specs.Counts.{Counts};
 ghost use Rattle.report.specs.Report.{reportText};
 ghost use Rattle.report.specs.Room.{inputBytes};
 
-// The buffer has one byte more than a sheet may have, so that a longer input is told from it.
+// Reads once into `rest`; the answer is the number of bytes, 0 where the input has ended or the read failed.
+fn read_more(rest: &mut [u8]) -> usize
+    ensures { λ r. ⌜ r ≤ length (now (rest .entry)) ⌝ }
+{
+    let got = libc::read(0, rest);
+    io::count(got, rest)
+}
+
+// The buffer has one byte more than a sheet may have, so that a longer input is told from it. Reads until the buffer is full, the input
+// ends or a read fails.
 fn read_input(sheet: &mut [u8]) -> usize
     requires { ⌜ length (now sheet) ≡ inputBytes ⌝ }
     ensures { λ r. ⌜ Counts r (now (sheet .exit)) ⌝ }
 {
-    io::read_full(0, sheet)
+    let mut done = 0;
+    while done < sheet.len() {
+        let more = read_more(&mut sheet[done..]);
+        if more == 0 {
+            return done;
+        }
+        done += more;
+    }
+    done
 }
 
 // What is written is the text of what was read.
