@@ -17,7 +17,7 @@ use Rattle.enclosure.specs.Entry.{plus, scaled}
 use Rattle.compound.specs.Call.{Lent, lentRows, workPlaces}
 use Rattle.compound.proofs.Recursion.{suc-pred}
 use Rattle.enclosure.specs.Term.{Small, TermRoom, termSums, entryOf}
-use Rattle.compound.specs.Room.{Reachable, columnsAt, columnEntry, stored, putColumns, placed}
+use Rattle.compound.specs.Room.{Reachable, columnsAt, columnOf, columnEntry, stored, putColumns, placed}
 
 -- ---- a term reads its row below x alone
 module _ (x : ℕ) (row row′ : ℕ → Entry) (same : (z : ℕ) → z < x → row z ≡ row′ z) where
@@ -39,35 +39,44 @@ module _ (x : ℕ) (row row′ : ℕ → Entry) (same : (z : ℕ) → z < x → 
   }
 
 -- ---- columns
--- the columns of row j + 1 lie in the work row
-pub columns-in : (places j : ℕ) → j ≤ 2 → columnsAt places j + places + places + places ≤ workPlaces places
-columns-in places j h = omega (arith, NL.mul-le-mul-right places (three j h))
+-- column n of row j + 1 lies in the work row
+pub column-in : (places j n : ℕ) → j ≤ 2 → n ≤ 2 → columnsAt places j + n * places + places ≤ workPlaces places
+column-in places j n h k = omega (arith, NL.mul-le-mul-right places (nine j n h k))
   where
-    three : (j : ℕ) → j ≤ 2 → 3 * j ≤ 6
-    three j h = omega arith
+    nine : (j n : ℕ) → j ≤ 2 → n ≤ 2 → 3 * j + n + 1 ≤ 9
+    nine j n h k = omega arith
 
--- a column as a part of the work row
-pub part-at : (work : List ℤ) (at n z : ℕ) → z < n → getD (take (at + n - at) (drop at work)) z (pos 0) ≡ getD work (at + z) (pos 0)
-part-at work at n z h = getD-take (at + n - at) (drop at work) z (pos 0) (omega arith) ∙ getD-drop at work z (pos 0)
+pub columns-in : (places j : ℕ) → j ≤ 2 → columnsAt places j + places + places + places ≤ workPlaces places
+columns-in places j h = omega (arith, column-in places j 2 h (NL.le-refl 2))
 
--- the entry at z of the three parts that begin at a place
-abbrev pub partsAt : List ℤ → ℕ → ℕ → ℕ → Entry
-partsAt work at n = entryOf (take (at + n - at) (drop at work)) (take (at + n + n - (at + n)) (drop (at + n) work))
-    (take (at + n + n + n - (at + n + n)) (drop (at + n + n) work))
+-- a place of a part of a row
+part-at : (work : List ℤ) (at n z : ℕ) → z < n → getD (take n (drop at work)) z (pos 0) ≡ getD work (at + z) (pos 0)
+part-at work at n z h = getD-take n (drop at work) z (pos 0) h ∙ getD-drop at work z (pos 0)
 
--- a further row, read from its parts
-pub parts-stored : (places : ℕ) (lent : Lent) (j at z : ℕ) → (j ≡ 0 → ⊥) → at ≡ columnsAt places (j - 1) → z < places
-    → stored places lent j z ≡ partsAt (lent .work) at places z
-parts-stored places lent j at z above e h =
-    ap (λ (k : ℕ). stored places lent k z) (suc-pred j above)
-    ∙ sym ((λ i. record {
-      low = part-at (lent .work) at places z h i;
-      high = part-at (lent .work) (at + places) places z h i;
-      bound = part-at (lent .work) (at + places + places) places z h i;
-    }) ∙ ap (λ (k : ℕ). columnEntry (lent .work) k places z) e)
+-- a row, read from its columns
+pub columns-stored : (places : ℕ) (lent : Lent) (j z : ℕ) → z < places → stored places lent j z
+    ≡ entryOf (columnOf places j 0 (lent .low) (lent .work)) (columnOf places j 1 (lent .high) (lent .work))
+    (columnOf places j 2 (lent .bound) (lent .work)) z
+columns-stored places lent zero z h = refl
+columns-stored places lent (suc j) z h = sym (λ i. record {
+  low = column 0 (at + z) (omega arith) i;
+  high = column 1 (at + places + z) (omega arith) i;
+  bound = column 2 (at + places + places + z) (omega arith) i;
+})
+  where
+    at : ℕ
+    at = columnsAt places j
 
-pub part-length : (work : List ℤ) (at n : ℕ) → at + n ≤ length work → length (take (at + n - at) (drop at work)) ≡ n
-part-length work at n h = length-take-le (at + n - at) (drop at work) (rw (length-drop at work) (omega arith)) ∙ NL.add-sub-cancel-left at n
+    column : (n place : ℕ) → at + n * places + z ≡ place
+        → getD (take places (drop (at + n * places) (lent .work))) z (pos 0) ≡ getD (lent .work) place (pos 0)
+    column n place e = part-at (lent .work) (at + n * places) places z h ∙ ap (λ (k : ℕ). getD (lent .work) k (pos 0)) e
+
+pub column-long : (places j n : ℕ) (first work : List ℤ) → j ≤ 3 → n ≤ 2 → places ≤ length first → workPlaces places ≤ length work
+    → places ≤ length (columnOf places j n first work)
+column-long places zero n first work h k l m = l
+column-long places (suc j) n first work h k l m =
+    let within = column-in places j n (omega arith) k in
+    NL.le-of-eq (sym (length-take-le places (drop (columnsAt places j + n * places) work) (rw length-drop (omega arith))))
 
 -- ---- an entry that is put
 pub same-lent : {l l′ h h′ b b′ w w′ : List ℤ} → l ≡ l′ → h ≡ h′ → b ≡ b′ → w ≡ w′ → lentRows l h b w ≡ lentRows l′ h′ b′ w′

@@ -5,7 +5,7 @@ use mathlib.Core.Bool.{true}
 use mathlib.Core.List.{List}
 use Prim.Native.Nat.{ℕ, zero, suc, _+_, _*_, _≤_, _<_}
 use lib.IntN.{ℤ, pos, natAbs, _*ℤ_}
-use lib.ListN.{length, getD, set, drop}
+use lib.ListN.{length, getD, set, take, drop}
 use Rattle.exact.specs.Severity.{totalWeight}
 use Rattle.model.specs.declared.Job.{Job}
 use Rattle.model.specs.declared.Law.{Law}
@@ -59,6 +59,11 @@ pub record LongEnough (places : ℕ) (lent : Lent) : Type 0 where
 -- where the columns of row j + 1 begin in the work row: low, high and bound, of as many places as there are totals
 abbrev pub columnsAt : ℕ → ℕ → ℕ
 columnsAt places j = 3 * j * places
+
+-- column n of row j, of low 0, high 1 and bound 2: for row 0 a lent row
+abbrev pub columnOf : ℕ → ℕ → ℕ → List ℤ → List ℤ → List ℤ
+columnOf places zero n first work = first
+columnOf places (suc j) n first work = take places (drop (columnsAt places j + n * places) work)
 
 -- the entry at total z of the three columns that begin at a place
 abbrev pub columnEntry : List ℤ → ℕ → ℕ → ℕ → Entry

@@ -8,9 +8,9 @@ ghost use Prim.Native.Nat.{_+_, _-_, _≤_, _<_};
 ghost use lib.IntN.{pos};
 ghost use lib.ListN.{length, set, replicate};
 ghost use Rattle.algebra.specs.Slice.{written};
-ghost use Rattle.compound.specs.Call.{lentRows};
+ghost use Rattle.compound.specs.Call.{lentRows, workPlaces};
 ghost use Rattle.enclosure.specs.Term.{TermRoom, lineFactor, termSums};
-ghost use Rattle.compound.specs.Room.{Reachable, columnsAt, stored, putColumns, placed};
+ghost use Rattle.compound.specs.Room.{Reachable, columnsAt, columnOf, stored, putColumns, placed};
 
 // Low, high and bound.
 const COLUMNS: usize = 3;
@@ -26,16 +26,35 @@ fn columns_at(places: usize, row: usize) -> usize
     COLUMNS * (row - 1) * places
 }
 
+// A column of row `row`, by its number: low 0, high 1, bound 2. That of row 0 is a lent row, `first`.
+fn column<'a>(
+    first: &'a [i64],
+    work: &'a [i64],
+    places: usize,
+    row: usize,
+    number: usize,
+) -> &'a [i64]
+    requires { ⌜ (row ≤ 3) × (number ≤ 2) × (places ≤ 501) × (workPlaces places ≤ length (now work)) ⌝ }
+    ensures { λ r. ⌜ now r ≡ columnOf places row number (now (first .entry)) (now (work .entry)) ⌝ }
+{
+    if row == 0 {
+        return first;
+    }
+    let at = columns_at(places, row) + number * places;
+    let end = at + places;
+    &work[at..end]
+}
+
 // The sums with those of one term added, which reads row `row`.
-pub fn add_row(
+pub fn add_row<'a>(
     sums: Entry,
     factor: Factor,
     x: usize,
     weights: &[u64],
-    low: &[i64],
-    high: &[i64],
-    bound: &[i64],
-    work: &[i64],
+    low: &'a [i64],
+    high: &'a [i64],
+    bound: &'a [i64],
+    work: &'a [i64],
     places: usize,
     row: usize,
 ) -> Entry
@@ -44,22 +63,10 @@ pub fn add_row(
     ensures { λ r. ⌜ r ≡ termSums sums (lineFactor factor (now (weights .entry))) x (now (weights .entry))
         (stored places (lentRows (now (low .entry)) (now (high .entry)) (now (bound .entry)) (now (work .entry))) row) ⌝ }
 {
-    if row == 0 {
-        return add_term(sums, factor, x, weights, low, high, bound);
-    }
-    let low_at = columns_at(places, row);
-    let high_at = low_at + places;
-    let bound_at = high_at + places;
-    let end = bound_at + places;
-    add_term(
-        sums,
-        factor,
-        x,
-        weights,
-        &work[low_at..high_at],
-        &work[high_at..bound_at],
-        &work[bound_at..end],
-    )
+    let lows = column(low, work, places, row, 0);
+    let highs = column(high, work, places, row, 1);
+    let bounds = column(bound, work, places, row, 2);
+    add_term(sums, factor, x, weights, lows, highs, bounds)
 }
 
 // An entry put at total `x` of row 0.

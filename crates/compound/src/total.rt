@@ -32,14 +32,14 @@ fn term_factor(law: Law, x: usize, i: usize) -> Factor
 }
 
 // The sums of row 0, term by term.
-fn sums_zero(
+fn sums_zero<'a>(
     law: Law,
     x: usize,
     weights: &[u64],
-    low: &[i64],
-    high: &[i64],
-    bound: &[i64],
-    work: &[i64],
+    low: &'a [i64],
+    high: &'a [i64],
+    bound: &'a [i64],
+    work: &'a [i64],
     places: usize,
 ) -> Entry
     requires { ⌜ Ready law (now weights) places x (lentRows (now low) (now high) (now bound) (now work)) ⌝ }
@@ -60,15 +60,15 @@ fn sums_zero(
 }
 
 // The entry of row 0.
-fn entry_zero(
+fn entry_zero<'a>(
     law: Law,
     total: u64,
     x: usize,
     weights: &[u64],
-    low: &[i64],
-    high: &[i64],
-    bound: &[i64],
-    work: &[i64],
+    low: &'a [i64],
+    high: &'a [i64],
+    bound: &'a [i64],
+    work: &'a [i64],
     places: usize,
 ) -> Entry
     requires { ⌜ (1 ≤ x) × (total ≡ totalWeight (now weights)) ⌝ }
@@ -82,14 +82,14 @@ fn entry_zero(
 }
 
 // The entry of a further row: the row before it, convolved with the weights.
-fn entry_next(
+fn entry_next<'a>(
     total: u64,
     x: usize,
     weights: &[u64],
-    low: &[i64],
-    high: &[i64],
-    bound: &[i64],
-    work: &[i64],
+    low: &'a [i64],
+    high: &'a [i64],
+    bound: &'a [i64],
+    work: &'a [i64],
     places: usize,
     before: usize,
 ) -> Entry
@@ -145,15 +145,15 @@ fn first_entry(start: Start, row: usize) -> Entry
 }
 
 // The entry of row `row` at total `x`; `total` is the sum of the weights.
-pub fn entry_at(
+pub fn entry_at<'a>(
     job: Job,
     total: u64,
     x: usize,
     weights: &[u64],
-    low: &[i64],
-    high: &[i64],
-    bound: &[i64],
-    work: &[i64],
+    low: &'a [i64],
+    high: &'a [i64],
+    bound: &'a [i64],
+    work: &'a [i64],
     places: usize,
     row: usize,
 ) -> Entry

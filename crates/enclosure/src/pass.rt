@@ -71,17 +71,7 @@ pub fn add_term(
     let mut from = 0;
     while from < last {
         let run = next_run(factor, from, last);
-        // Each slice is lent anew, whole: of one that is only handed on the compiler passes the address, and every call stores and loads it.
-        sums = add_run(
-            sums,
-            factor,
-            run,
-            x,
-            &weights[..],
-            &low[..],
-            &high[..],
-            &bound[..],
-        );
+        sums = add_run(sums, factor, run, x, weights, low, high, bound);
         from = run.to;
     }
     sums
