@@ -120,10 +120,11 @@ static void read_job(const char *path) {
     job.work_length = CLAIMTOTALS_WORK;
 }
 
+static const Version versions[] = {{"proved", call_proved}, {"plain", call_plain}};
+
 int main(int argc, char **argv) {
     if (argc != 4) return 2;
     read_job(argv[3]);
     if (strcmp(argv[1], "time") == 0) compare_all();
-    run_calls(argv[1], atol(argv[2]), 1, call_proved, call_plain);
-    return 0;
+    return run_calls(argv[1], atol(argv[2]), 1, versions, sizeof versions / sizeof *versions);
 }

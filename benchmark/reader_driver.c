@@ -101,10 +101,11 @@ static void compare_all(void) {
     places = PLACES;
 }
 
+static const Version versions[] = {{"proved", call_proved}, {"plain", call_plain}};
+
 int main(int argc, char **argv) {
     if (argc != 3) return 2;
     if (strcmp(argv[1], "time") == 0) compare_all();
     make_good(1);
-    run_calls(argv[1], atol(argv[2]), BATCH, call_proved, call_plain);
-    return 0;
+    return run_calls(argv[1], atol(argv[2]), BATCH, versions, sizeof versions / sizeof *versions);
 }

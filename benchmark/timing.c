@@ -18,17 +18,25 @@ static double shorter(Call *call, long batch, double best) {
     return spent < best ? spent : best;
 }
 
-void run_calls(const char *which, long times, long batch, Call *proved, Call *plain) {
+static void time_calls(long times, long batch, const Version *versions, size_t count) {
+    double best[count];
+    for (size_t v = 0; v < count; v++) best[v] = 1e9;
+    // in turns, so that a change of the machine's speed falls on all
+    for (long i = 0; i < times; i++)
+        for (size_t v = 0; v < count; v++) best[v] = shorter(versions[v].call, batch, best[v]);
+    for (size_t v = 0; v < count; v++) printf("%.2f%c", best[v], v + 1 < count ? ' ' : '\n');
+}
+
+int run_calls(const char *which, long times, long batch, const Version *versions, size_t count) {
     if (strcmp(which, "time") == 0) {
-        double p = 1e9, q = 1e9;
-        // in turns, so that a change of the machine's speed falls on both
-        for (long i = 0; i < times; i++) {
-            p = shorter(proved, batch, p);
-            q = shorter(plain, batch, q);
-        }
-        printf("%.2f %.2f\n", p, q);
-        return;
+        time_calls(times, batch, versions, count);
+        return 0;
     }
-    Call *call = strcmp(which, "proved") == 0 ? proved : plain;
-    for (long i = 0; i < times; i++) call();
+    for (size_t v = 0; v < count; v++) {
+        if (strcmp(which, versions[v].name) != 0) continue;
+        Call *call = versions[v].call;
+        for (long i = 0; i < times; i++) call();
+        return 0;
+    }
+    return 2;
 }
