@@ -1,5 +1,6 @@
-// Runs the proved curve call and the plain one on the job of a sheet: `curve WHICH TIMES SHEET`, with WHICH as in timing.h. `time` first
-// compares what they answer and every place that they leave, on this job and on jobs made from it, of which each refusal has one or more.
+// Runs the proved curve call, the plain one and the tuned one on the job of a sheet: `curve WHICH TIMES SHEET`, with WHICH as in timing.h.
+// `time` first compares what the three answer and every place that they leave, on this job and on others, of which each refusal has one or
+// more.
 #include <stdbool.h>
 #include <stdio.h>
 #include <stdlib.h>
@@ -8,14 +9,18 @@
 #include "claimtotals.h"
 #include "plain.h"
 #include "timing.h"
+#include "tuned.h"
 
-enum { MOST_BYTES = 16384, REFUSALS = 10 };
+enum { MOST_BYTES = 16384, REFUSALS = 10, WEIGHTS = CLAIMTOTALS_WEIGHTS };
+
+// the versions that are compared
+enum { PROVED, PLAIN, TUNED, COMPARED };
 
 // what a call is given, but for its rows
 typedef struct {
     uint64_t order, divisor;
     int64_t a[4], b[4];
-    uint64_t start_low, start_high, last, weights[CLAIMTOTALS_WEIGHTS + 1];
+    uint64_t start_low, start_high, last, weights[WEIGHTS + 1];
     size_t count, low_length, high_length, bound_length, work_length;
 } Job;
 
@@ -27,19 +32,21 @@ typedef struct {
 } Answer;
 
 static Job job;
-static Answer proved, plain;
+static Answer answers[COMPARED];
 
-static void call_proved(void) {
-    proved.number = claimtotals_curve(job.order, job.divisor, job.a, job.b, job.start_low, job.start_high, job.last, job.weights, job.count,
-                                      proved.low, job.low_length, proved.high, job.high_length, proved.bound, job.bound_length, proved.work,
-                                      job.work_length, &proved.place);
+static inline void ask(__typeof__(claimtotals_curve) *curve, Answer *answer) {
+    answer->number = curve(job.order, job.divisor, job.a, job.b, job.start_low, job.start_high, job.last, job.weights, job.count,
+                           answer->low, job.low_length, answer->high, job.high_length, answer->bound, job.bound_length, answer->work,
+                           job.work_length, &answer->place);
 }
 
-static void call_plain(void) {
-    plain.number = plain_curve(job.order, job.divisor, job.a, job.b, job.start_low, job.start_high, job.last, job.weights, job.count,
-                               plain.low, job.low_length, plain.high, job.high_length, plain.bound, job.bound_length, plain.work,
-                               job.work_length, &plain.place);
-}
+static void call_proved(void) { ask(claimtotals_curve, &answers[PROVED]); }
+
+static void call_plain(void) { ask(plain_curve, &answers[PLAIN]); }
+
+static void call_tuned(void) { ask(tuned_curve, &answers[TUNED]); }
+
+static const Version versions[] = {{"proved", call_proved}, {"plain", call_plain}, {"tuned", call_tuned}};
 
 static void fail(const char *why) {
     fprintf(stderr, "curve: %s\n", why);
@@ -47,22 +54,116 @@ static void fail(const char *why) {
 }
 
 static uint64_t compare(void) {
-    memset(&proved, 0x55, sizeof proved);
-    memset(&plain, 0x55, sizeof plain);
-    call_proved();
-    call_plain();
-    if (memcmp(&proved, &plain, sizeof proved) != 0) fail("the answers or the rows differ");
-    if (proved.number > REFUSALS) fail("there is no such refusal");
-    return proved.number;
+    memset(answers, 0x55, sizeof answers);
+    for (size_t v = 0; v < COMPARED; v++) {
+        versions[v].call();
+        if (memcmp(&answers[v], &answers[PROVED], sizeof *answers) == 0) continue;
+        fprintf(stderr, "curve: the answers or the rows differ, proved and %s\n", versions[v].name);
+        exit(1);
+    }
+    if (answers[PROVED].number > REFUSALS) fail("there is no such refusal");
+    return answers[PROVED].number;
+}
+
+static void compare_accepted(void) {
+    if (compare() != 0) fail("a job is refused that should be accepted");
+}
+
+static void no_terms(void) {
+    memset(job.a, 0, sizeof job.a);
+    memset(job.b, 0, sizeof job.b);
 }
 
 // a law of order 1 and claims of size 1, by which the amount at x is (a + b/x) times the one before
 static void one_term(int64_t a, int64_t b) {
-    memset(job.a, 0, sizeof job.a);
-    memset(job.b, 0, sizeof job.b);
+    no_terms();
     job.order = job.divisor = job.count = 1;
     job.a[0] = a;
     job.b[0] = b;
+}
+
+// The passes that were met. Of those whose factors change sign, apart for a slope below 0 and above it: how many factors are negative, how
+// many are positive, and whether one between them is 0 though its weight is not. And whether there was one with negative factors and a
+// slope of 0.
+static struct {
+    bool negative[2][WEIGHTS + 1], positive[2][WEIGHTS + 1], zero[2], flat;
+} passes;
+
+static void meet_pass(int64_t constant, int64_t slope, size_t last) {
+    size_t negative = 0, positive = 0, zero = 0;
+    for (size_t y = 1; y <= last; y++) {
+        int64_t line = constant + slope * (int64_t)y;
+        negative += line < 0;
+        positive += line > 0;
+        zero += line == 0 && job.weights[y - 1] > 0;
+    }
+    if (constant < 0 && slope == 0) passes.flat = true;
+    if (negative == 0 || positive == 0) return;
+    passes.negative[slope > 0][negative] = passes.positive[slope > 0][positive] = true;
+    if (zero > 0) passes.zero[slope > 0] = true;
+}
+
+static void compare_passes(void) {
+    compare_accepted();
+    for (size_t x = 1; x <= job.last; x++)
+        for (size_t i = 0; i < job.order; i++) meet_pass(job.a[i] * (int64_t)x, job.b[i], x < job.count ? x : job.count);
+}
+
+// a law with terms of both signs, so light that the amounts cannot grow
+static void both_signs(uint64_t order, int64_t a, int64_t b) {
+    const int64_t turned[] = {a, b, -a, -b};
+    no_terms();
+    for (size_t i = 0; i < order; i++) {
+        job.a[i] = turned[i];
+        job.b[i] = turned[(i + 1) % 4];
+    }
+    job.order = order;
+    job.divisor = 60 * order;
+}
+
+// Laws whose factors change sign in the middle of a pass, in both directions and at every place up to MOST_CUT from either end. Every
+// fourth weight is 0. The start is wide, so that a low in the place of a high shows.
+static void compare_signs(void) {
+    enum { MOST_CUT = 450 };
+    static const int64_t numbers[] = {-30, -29, -7, -2, -1, 0, 1, 2, 7, 29, 30};
+    const size_t count = sizeof numbers / sizeof *numbers;
+    job.start_low = 100000000;
+    job.start_high = 400000000;
+    job.last = CLAIMTOTALS_TOTALS - 1;
+    for (size_t y = 1; y <= WEIGHTS; y++) job.weights[y - 1] = y % 4;
+    for (size_t i = 0; i < count * count; i++) {
+        for (uint64_t order = 1; order <= 4; order++) {
+            both_signs(order, numbers[i / count], numbers[i % count]);
+            job.count = 93;
+            compare_passes();
+            job.count = WEIGHTS;
+            compare_passes();
+        }
+    }
+    for (size_t up = 0; up < 2; up++) {
+        if (!passes.zero[up]) fail("no factor of 0 was met");
+        for (size_t n = 1; n <= MOST_CUT; n++)
+            if (!passes.negative[up][n] || !passes.positive[up][n]) fail("a place of the change was not met");
+    }
+    if (!passes.flat) fail("no negative factors with a slope of 0 were met");
+}
+
+// the largest factors, of 10^9 and -10^9, and amounts of 2U and -2U
+static void compare_largest(void) {
+    job.start_low = job.start_high = CLAIMTOTALS_UNIT;
+    job.last = CLAIMTOTALS_TOTALS - 1;
+    for (int64_t z = -1000; z <= 1000; z += 2000) {
+        memset(job.weights, 0, sizeof job.weights);
+        job.weights[WEIGHTS - 1] = 1000;
+        one_term(z, z);
+        job.divisor = 1000;
+        job.count = WEIGHTS;
+        compare_accepted();
+        job.weights[0] = 1000;
+        one_term(0, z);
+        job.divisor = 500;
+        compare_accepted();
+    }
 }
 
 // compares on the sheet's job with a change
@@ -77,7 +178,7 @@ static void compare_all(void) {
     const Job given = job;
     const uint64_t unit = CLAIMTOTALS_UNIT;
     bool met[REFUSALS + 1] = {false};
-    if (compare() != 0) fail("the sheet's job is refused");
+    compare_accepted();
     for (uint64_t k = 0; k <= 5; k++) WITH(job.order = k);
     for (uint64_t x = 0; x <= 501; x++) WITH(job.last = x);
     for (size_t m = 0; m <= 501; m++) WITH(job.count = m);
@@ -105,6 +206,10 @@ static void compare_all(void) {
     for (size_t number = 0; number <= REFUSALS; number++)
         if (!met[number]) fail("a refusal was not met");
     job = given;
+    compare_signs();
+    job = given;
+    compare_largest();
+    job = given;
 }
 
 static void read_job(const char *path) {
@@ -113,14 +218,12 @@ static void read_job(const char *path) {
     if (file == NULL) fail("there is no such sheet");
     size_t length = fread(sheet, 1, sizeof sheet, file), line;
     fclose(file);
-    if (claimtotals_read_sheet(sheet, length, job.weights, CLAIMTOTALS_WEIGHTS, &line, &job.order, &job.divisor, job.a, job.b,
-                               &job.start_low, &job.start_high, &job.last, &job.count) != 0)
+    if (claimtotals_read_sheet(sheet, length, job.weights, WEIGHTS, &line, &job.order, &job.divisor, job.a, job.b, &job.start_low,
+                               &job.start_high, &job.last, &job.count) != 0)
         fail("the sheet is refused");
     job.low_length = job.high_length = job.bound_length = CLAIMTOTALS_TOTALS;
     job.work_length = CLAIMTOTALS_WORK;
 }
-
-static const Version versions[] = {{"proved", call_proved}, {"plain", call_plain}};
 
 int main(int argc, char **argv) {
     if (argc != 4) return 2;
