@@ -1,12 +1,13 @@
-// Runs the proved curve call, the plain one and the tuned one on the job of a sheet: `curve WHICH TIMES SHEET`, with WHICH as in timing.h.
-// `time` first compares what the three answer and every place that they leave, on this job and on others, of which each refusal has one or
-// more.
+// Runs the proved curve call, the plain one and the tuned one on the job of a sheet, and `limit`, which is only the multiplications that
+// the job needs: `curve WHICH TIMES SHEET`, with WHICH as in timing.h. `time` first compares what the three calls answer and every place
+// that they leave, on this job and on others, of which each refusal has one or more.
 #include <stdbool.h>
 #include <stdio.h>
 #include <stdlib.h>
 #include <string.h>
 
 #include "claimtotals.h"
+#include "limit.h"
 #include "plain.h"
 #include "timing.h"
 #include "tuned.h"
@@ -46,7 +47,13 @@ static void call_plain(void) { ask(plain_curve, &answers[PLAIN]); }
 
 static void call_tuned(void) { ask(tuned_curve, &answers[TUNED]); }
 
-static const Version versions[] = {{"proved", call_proved}, {"plain", call_plain}, {"tuned", call_tuned}};
+// the multiplications that the job needs, and what came of them
+static uint64_t multiplications;
+static volatile uint64_t folded;
+
+static void call_limit(void) { folded = only_multiply(multiplications); }
+
+static const Version versions[] = {{"proved", call_proved}, {"plain", call_plain}, {"tuned", call_tuned}, {"limit", call_limit}};
 
 static void fail(const char *why) {
     fprintf(stderr, "curve: %s\n", why);
@@ -225,9 +232,18 @@ static void read_job(const char *path) {
     job.work_length = CLAIMTOTALS_WORK;
 }
 
+// How many multiplications the job needs: for each pair of a severity and an entry four in the pass of a term, line times weight and factor
+// times low, high and bound, and three in a convolution, whose factors are the weights.
+static uint64_t needed(void) {
+    uint64_t pairs = 0;
+    for (uint64_t x = 1; x <= job.last; x++) pairs += x < job.count ? x : job.count;
+    return pairs * (4 * job.order + 3 * (job.order - 1));
+}
+
 int main(int argc, char **argv) {
     if (argc != 4) return 2;
     read_job(argv[3]);
     if (strcmp(argv[1], "time") == 0) compare_all();
+    multiplications = needed();
     return run_calls(argv[1], atol(argv[2]), 1, versions, sizeof versions / sizeof *versions);
 }
