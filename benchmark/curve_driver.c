@@ -1,6 +1,6 @@
-// Runs the proved curve call, the plain one and the tuned one on the job of a sheet, and `limit`, which is only the multiplications that
-// the job needs: `curve WHICH TIMES SHEET`, with WHICH as in timing.h. `time` first compares what the three calls answer and every place
-// that they leave, on this job and on others, of which each refusal has one or more.
+// Runs the proved curve call, the plain one and the two tuned ones on the job of a sheet, and `limit`, which is only the multiplications
+// that the job needs: `curve WHICH TIMES SHEET`, with WHICH as in timing.h. `time` first compares what the four calls answer and every
+// place that they leave, on this job and on others, of which each refusal has one or more.
 #include <stdbool.h>
 #include <stdio.h>
 #include <stdlib.h>
@@ -15,7 +15,7 @@
 enum { MOST_BYTES = 16384, REFUSALS = 10, WEIGHTS = CLAIMTOTALS_WEIGHTS };
 
 // the versions that are compared
-enum { PROVED, PLAIN, TUNED, COMPARED };
+enum { PROVED, PLAIN, TUNED, LEAN, COMPARED };
 
 // what a call is given, but for its rows
 typedef struct {
@@ -47,13 +47,17 @@ static void call_plain(void) { ask(plain_curve, &answers[PLAIN]); }
 
 static void call_tuned(void) { ask(tuned_curve, &answers[TUNED]); }
 
+static void call_lean(void) { ask(lean_curve, &answers[LEAN]); }
+
 // the multiplications that the job needs, and what came of them
 static uint64_t multiplications;
 static volatile uint64_t folded;
 
 static void call_limit(void) { folded = only_multiply(multiplications); }
 
-static const Version versions[] = {{"proved", call_proved}, {"plain", call_plain}, {"tuned", call_tuned}, {"limit", call_limit}};
+static const Version versions[] = {
+    {"proved", call_proved}, {"plain", call_plain}, {"tuned", call_tuned}, {"lean", call_lean}, {"limit", call_limit},
+};
 
 static void fail(const char *why) {
     fprintf(stderr, "curve: %s\n", why);

@@ -3,18 +3,25 @@
 //
 // The factor at severity y is (constant + slope y) w(y), and no weight is negative. So the factors of a pass change sign once at most, and
 // there the pass is cut into two runs. In a run the choice between low and high is made once. Negative factors have their signs changed,
-// and their sums are taken off. So all that is multiplied is a natural number below 2^32: a factor, at most 10^9; a low or a high, raised
-// by 2U and then at most 4U; a bound, at most U, which need not be raised, as it is never negative. Such numbers pmuludq of SSE2 multiplies
-// two by two, with products of 64 bits. The factors of a run come to 10^9 at most, as the weights come to 1,000; so no sum is above
-// 4 times 10^18. Raising has added 2U times the sum of the factors, which is taken off at the end.
+// and their sums are taken off. So all that is multiplied is a natural number below 2^32: a factor, at most 10^9; an entry, raised by 2U
+// and then at most 4U. Such numbers pmuludq of SSE2 multiplies two by two, with products of 64 bits. The factors of a run come to 10^9 at
+// most, as the weights come to 1,000; so no sum is above 4 times 10^18. Raising has added 2U times the sum of the factors, which is taken
+// off at the end.
+//
+// lean_curve.c includes this with LEAN defined: bounds are then not raised, as they are never negative.
 #include <emmintrin.h>
 
 #include "tuned.h"
 
-// all in one function, so that what the smaller ones hand on stays in registers
-__typeof__(tuned_curve) tuned_curve __attribute__((flatten));
-
+#ifdef LEAN
+#define CURVE lean_curve
+#else
 #define CURVE tuned_curve
+#endif
+
+// all in one function, so that what the smaller ones hand on stays in registers
+__typeof__(CURVE) CURVE __attribute__((flatten));
+
 #include "curve_call.h"
 
 // the sums of a run, each in two halves that are to be added up; `factors` is that of the factors alone
@@ -43,12 +50,22 @@ static inline __m128i product(__m128i a, __m128i b) { return _mm_mul_epu32(a, b)
 
 static inline __m128i raised(__m128i entries) { return sum(entries, _mm_set1_epi64x(2 * UNIT)); }
 
+#ifdef LEAN
+static inline __m128i raised_bounds(__m128i bounds) { return bounds; }
+
+static inline int64_t lowered_bound(int64_t bound, int64_t excess) { return (void)excess, bound; }
+#else
+static inline __m128i raised_bounds(__m128i bounds) { return raised(bounds); }
+
+static inline int64_t lowered_bound(int64_t bound, int64_t excess) { return bound - excess; }
+#endif
+
 // the sums with those of two pairs added, or of one
 static inline Sums add_pairs(Sums sums, __m128i lines, __m128i weights, Load *load, Entries entries, int64_t at) {
     const __m128i factors = product(weights, lines);
     sums.low = sum(sums.low, product(raised(load(entries.low + at)), factors));
     sums.high = sum(sums.high, product(raised(load(entries.high + at)), factors));
-    sums.bound = sum(sums.bound, product(load(entries.bound + at), factors));
+    sums.bound = sum(sums.bound, product(raised_bounds(load(entries.bound + at)), factors));
     sums.factors = sum(sums.factors, factors);
     return sums;
 }
@@ -62,7 +79,7 @@ static inline Entry lowered(Sums sums) {
     const __m128i ends = sum(_mm_unpacklo_epi64(sums.low, sums.high), _mm_unpackhi_epi64(sums.low, sums.high));
     const __m128i rest = sum(_mm_unpacklo_epi64(sums.factors, sums.bound), _mm_unpackhi_epi64(sums.factors, sums.bound));
     const int64_t excess = first(rest) * (2 * UNIT);
-    return (Entry){first(ends) - excess, second(ends) - excess, second(rest)};
+    return (Entry){first(ends) - excess, second(ends) - excess, lowered_bound(second(rest), excess)};
 }
 
 // The sums of a run of n severities, without a negative factor. `line` is constant + slope y at the last of them, and `weights` ends with
