@@ -3,10 +3,10 @@ use mathlib.Core.Path.{_≡_, refl, _∙_}
 use Prim.Native.Nat.{ℕ, zero, suc, _+_, _*_, _≤_, _<_, _^_}
 use native.Mathlib.Nat as NL
 use native.Mathlib.Omega.{arith}
-use lib.IntN.{ℤ, pos, negsuc, negℤ, natAbs, subℕ, _+ℤ_, _*ℤ_}
+use lib.IntN.{ℤ, pos, negsuc, negℤ, natAbs, subℕ, _+ℤ_, _-ℤ_, _*ℤ_, +ℤ-idl}
 use lib.Signed.{mag}
 use mir.Syntax.{Width}
-use mir.Val.{toZ, ofZ, hbits}
+use mir.Val.{SFits, toZ, ofZ, hbits}
 use mir.Facts.{toZ-ofZ}
 use Rattle.algebra.specs.Size.{SizeAdd, SizeSub, SizeMul, SizeSum, SizeFits}
 use Rattle.algebra.proofs.Sum.{sum-related}
@@ -53,3 +53,14 @@ size-fits w z h = record { sfits = NL.lt-of-le-of-lt (mag-size z) h }
 -- what a signed local holds, where the number that was put there fits and is v
 pub held : (w : Width) {z v : ℤ} → mag z < 2 ^ hbits w → z ≡ v → toZ w (ofZ w z) ≡ v
 held w h e = toZ-ofZ (record { sfits = h }) ∙ e
+
+-- the negative of what it holds, where that is small
+module _ (w : Width) (z : ℤ) (h : natAbs z < 2 ^ hbits w) where
+  fits : SFits w (pos 0 -ℤ z)
+  fits = size-fits w (pos 0 -ℤ z) (omega (arith, size-sub (pos 0) z))
+
+  pub negative-fits : SFits w (pos 0 -ℤ toZ w (ofZ w z))
+  negative-fits = rw (toZ-ofZ (size-fits w z h)) fits
+
+  pub negative-held : toZ w (ofZ w (pos 0 -ℤ toZ w (ofZ w z))) ≡ negℤ z
+  negative-held = rw (toZ-ofZ (size-fits w z h), toZ-ofZ fits) (+ℤ-idl (negℤ z))

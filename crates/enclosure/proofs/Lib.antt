@@ -1,4 +1,4 @@
--- Proofs that the functions share, bottom up: entries and their opposites, lines, sizes.
+-- Proofs that the functions share, bottom up: entries and their opposites, lines, sizes, raised sums, runs; and what tests say.
 pub mod Scaled
 pub mod Line
 pub mod Sizes

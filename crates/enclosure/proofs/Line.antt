@@ -1,30 +1,24 @@
--- A factor's line: upright it is zero or more where the line itself passes the code's test.
-use mathlib.Core.Path.{_≡_}
-use mathlib.Core.Bool.{Bool, true, false}
-use mathlib.Core.List.{[], _∷_}
-use Prim.Native.Nat.{ℕ, _+_}
-use native.Mathlib.Nat as NL
-use borrow.Author.Tests.{ltb-true}
-use lib.IntN.{ℤ, pos, negsuc, negℤ, _-ℤ_}
-use lib.Signed.{_≤ℤ_, ltZ, ltZ-no}
-use Rattle.algebra.specs.Solver.{var, unit as one, _:+_, _:*_, :-_}
-use Rattle.algebra.proofs.Solver.{solve}
+-- A factor's line: where it is below zero with one sign, it is zero or more with the other.
+use mathlib.Core.Path.{_≡_, sym, _∙_, ap}
+use mathlib.Core.Bool.{Bool, true, false, not}
+use Prim.Native.Nat.{ℕ}
+use lib.IntN.{ℤ, pos, negℤ}
+use lib.Signed.{_≤ℤ_, _<ℤ_}
+use Rattle.algebra.proofs.Line.{line-negative}
+use Rattle.algebra.proofs.Ring.{neg-neg}
 use Rattle.algebra.proofs.Size.{size-neg}
-use Rattle.algebra.proofs.Integer.{integers, signed}
+use Rattle.algebra.proofs.Integer.{integers, signed, split-neg}
 use Rattle.enclosure.specs.declared.term.Factor.{Factor}
 use Rattle.enclosure.specs.Term.{lineAt}
 use Rattle.enclosure.specs.Run.{FactorSmall, upright}
-use Rattle.enclosure.proofs.Scaled.{negative-line}
-
-negated : (z : ℤ) → ltZ z (pos 0) ≡ true → pos 0 ≤ℤ negℤ z
-negated (pos n) e = absurd (NL.not-suc-le-zero (ltb-true n 0 e))
-negated (negsuc n) e = omega signed
 
 module _ (f : Factor) where
-  -- the upright line, by the code's test of the line itself
-  pub upright-line : (y : ℕ) (below : Bool) → ltZ (lineAt f y) (pos 0) ≡ below → pos 0 ≤ℤ lineAt (upright f below) y
-  upright-line y true e = rw (negative-line f y) (negated (lineAt f y) e)
-  upright-line y false e = ltZ-no (rw e tt)
+  other-line : (below : Bool) (y : ℕ) → lineAt (upright f (not below)) y ≡ negℤ (lineAt (upright f below) y)
+  other-line true y = sym (ap negℤ (line-negative (f .slope) (f .constant) y) ∙ neg-neg integers (lineAt f y))
+  other-line false y = line-negative (f .slope) (f .constant) y
+
+  pub other-sign : (below : Bool) (y : ℕ) → lineAt (upright f below) y <ℤ pos 0 → pos 0 ≤ℤ lineAt (upright f (not below)) y
+  other-sign below y h = rw (other-line below y) (omega (signed, split-neg (lineAt (upright f below) y)))
 
   pub upright-small : (below : Bool) → FactorSmall f → FactorSmall (upright f below)
   upright-small true h = record {
@@ -32,7 +26,3 @@ module _ (f : Factor) where
     slope-small = rw (size-neg (f .slope)) (h .slope-small);
   }
   upright-small false h = h
-
-  pub line-before : (y : ℕ) → lineAt f (y + 1) -ℤ f .slope ≡ lineAt f y
-  line-before y = solve integers (f .slope ∷ pos y ∷ f .constant ∷ [])
-      (var 0 :* (var 1 :+ one) :+ var 2 :+ :- var 0) (var 0 :* var 1 :+ var 2) tt

@@ -15,7 +15,7 @@ use Rattle.algebra.specs.Solver.{var, _:+_, _:*_, :-_}
 use Rattle.algebra.specs.Sum.{accumulateBack}
 use Rattle.algebra.proofs.Solver.{solve}
 use Rattle.algebra.proofs.Sum.{sum-related, sum-parts, accumulate-next}
-use Rattle.algebra.proofs.Line.{line-between}
+use Rattle.algebra.proofs.Line.{line-before}
 use Rattle.algebra.proofs.Size.{size-add, size-mul, size-fits}
 use Rattle.algebra.proofs.Integer.{integers, signed, split-add, split-size, *ℤ-+ℤ, *ℤ-nonneg}
 use Rattle.enclosure.specs.declared.Entry.{Entry}
@@ -26,8 +26,7 @@ use Rattle.enclosure.specs.Term.{Small, lineAt, lineFactor}
 use Rattle.enclosure.specs.Run.{AddRoom, RunRoom, RaisedSmall, runSums}
 use Rattle.enclosure.specs.Run.{raised, raisedTerm, raisedNone, raisedPlus, raisedAt, raisedSums, lowered}
 use Rattle.enclosure.proofs.Scaled.{same-entry}
-use Rattle.enclosure.proofs.Line.{line-before}
-use Rattle.enclosure.proofs.Sizes.{first-weights, one-weight, line-size, factor-size}
+use Rattle.enclosure.proofs.Sizes.{first-weights, one-weight, slope-fits, line-size, factor-size}
 
 pub same-raised : {l l′ h h′ b b′ f f′ : ℕ} → l ≡ l′ → h ≡ h′ → b ≡ b′ → f ≡ f′
     → _≡_ {A = Raised} (record { low = l; high = h; bound = b; factors = f }) (record { low = l′; high = h′; bound = b′; factors = f′ })
@@ -105,7 +104,7 @@ module _ (f : Factor) (from to x : ℕ) (weights : List ℕ) (row : ℕ → Entr
 
   within : (y : ℕ) → from ≤ y → y < to → Within y
   within y k l = record {
-    line = line-between (f .slope) (f .constant) (from + 1) (y + 1) to (omega arith) (omega arith) (h .first) (h .final);
+    line = h .line-upright (y + 1) (omega arith) (omega arith);
     line-small = line-size f (h .factor-small) (y + 1) (omega (arith, h .below-x, h .x-small));
     factor-small = factor-size f (h .factor-small) weights y (omega (arith, h .below-x, h .x-small));
     entry-small = h .row-small (x - (y + 1)) (omega (arith, h .below-x));
@@ -172,7 +171,7 @@ module _ (f : Factor) (from to x : ℕ) (weights : List ℕ) (row : ℕ → Entr
           bound-small = omega (arith, t .entry-small .bound);
           sums-small = rw (accumulate-next raisedNone raisedPlus i (λ i. raisedAt f x weights row (to - (i + 1)))) (run-small (i + 1) (omega arith));
         };
-        line-next = line-before f y;
+        line-next = line-before (f .slope) (f .constant) y;
         line-fits = size-fits w64 (lineAt f y) (omega (arith, line-size f (h .factor-small) y (omega (arith, h .below-x, h .x-small))));
-        slope-fits = size-fits w64 (f .slope) (omega (arith, h .factor-small .slope-small));
+        slope-fits = slope-fits f (h .factor-small);
       }

@@ -1,18 +1,19 @@
 -- A term, taken run by run: each run is the next part of the term's sum, and the sums so far fit as the whole does.
 use mathlib.Core.Path.{_≡_, sym, _∙_, ap, subst}
 use mathlib.Core.List.{List}
-use Prim.Native.Nat.{ℕ, _+_, _-_, min}
-use native.Mathlib.Nat as NL
+use Prim.Native.Nat.{ℕ, _-_, _≤_, _<_, min}
 use native.Mathlib.Omega.{arith}
+use lib.IntN.{pos}
+use lib.Signed.{_≤ℤ_}
 use lib.ListN.{length}
 use Rattle.algebra.specs.Sum.{accumulate}
 use Rattle.algebra.proofs.Sum.{sum-parts}
 use Rattle.enclosure.specs.declared.Entry.{Entry}
 use Rattle.enclosure.specs.declared.run.Run.{Run}
 use Rattle.enclosure.specs.declared.term.Factor.{Factor}
-use Rattle.enclosure.specs.Entry.{none, plus, scaled}
-use Rattle.enclosure.specs.Term.{TermRoom, lineFactor}
-use Rattle.enclosure.specs.Run.{EntryFits, NextRun, RunRoom, upright, runSums}
+use Rattle.enclosure.specs.Entry.{none, plus}
+use Rattle.enclosure.specs.Term.{TermRoom, lineAt, lineFactor, termAt}
+use Rattle.enclosure.specs.Run.{EntryFits, RunRoom, upright, runSums}
 use Rattle.enclosure.proofs.Scaled.{plus-assoc, plus-comm, plus-none}
 use Rattle.enclosure.proofs.Line.{upright-small}
 use Rattle.enclosure.proofs.Sizes.{factor-small, grown-fits}
@@ -20,27 +21,25 @@ use Rattle.enclosure.proofs.Sizes.{factor-small, grown-fits}
 module _ (sums : Entry) (f : Factor) (x : ℕ) (weights : List ℕ) (row : ℕ → Entry) (h : TermRoom sums f x weights row) where
   -- the sums after n severities
   abbrev pub so-far : ℕ → Entry
-  so-far n = accumulate sums plus n (λ y. scaled (lineFactor f weights y) (row (x - (y + 1))))
+  so-far n = accumulate sums plus n (termAt (lineFactor f weights) x row)
 
-  module _ (from : ℕ) (run : Run) (next : NextRun f from (min x (length weights)) run) where
-    pub run-room : RunRoom (upright f (run .negative)) (run .from) (run .to) x weights row
-    run-room = rw (next .starts) record {
+  module _ (run : Run) (in-order : run .from ≤ run .to) (within : run .to ≤ min x (length weights)) where
+    pub run-room : ((y : ℕ) → run .from < y → y ≤ run .to → pos 0 ≤ℤ lineAt (upright f (run .negative)) y)
+        → RunRoom (upright f (run .negative)) (run .from) (run .to) x weights row
+    run-room h′ = record {
       factor-small = upright-small f (run .negative) (factor-small sums f x weights row h);
       x-small = h .x-small;
       weights-small = h .weights-small;
       row-small = h .row-small;
-      in-order = omega (arith, next .grows);
-      below-x = omega (arith, next .within);
-      weighted = omega (arith, next .within);
-      first = next .first;
-      final = next .final;
+      in-order = in-order;
+      below-x = omega arith;
+      weighted = omega arith;
+      line-upright = h′;
     }
 
-    pub run-next : plus (so-far from) (runSums f (run .from) (run .to) x weights row) ≡ so-far (run .to)
-    run-next = rw (next .starts) (
-        ap (λ (n : ℕ). plus (so-far n) (runSums f from (run .to) x weights row)) (omega (arith, next .grows))
-        ∙ sym (sum-parts none plus plus-assoc plus-comm plus-none sums (run .to) (run .to - from) _ (omega arith))
-        )
+    pub run-next : plus (so-far (run .from)) (runSums f (run .from) (run .to) x weights row) ≡ so-far (run .to)
+    run-next = ap (λ (n : ℕ). plus (so-far n) (runSums f (run .from) (run .to) x weights row)) (omega arith)
+        ∙ sym (sum-parts none plus plus-assoc plus-comm plus-none sums (run .to) (run .to - run .from) _ (omega arith))
 
-    pub run-fits : EntryFits (plus (so-far from) (runSums f (run .from) (run .to) x weights row))
-    run-fits = subst EntryFits (sym run-next) (grown-fits sums f x weights row h (run .to) (omega (arith, next .within)))
+    pub run-fits : EntryFits (plus (so-far (run .from)) (runSums f (run .from) (run .to) x weights row))
+    run-fits = subst EntryFits (sym run-next) (grown-fits sums f x weights row h (run .to) (omega arith))

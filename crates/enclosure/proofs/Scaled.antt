@@ -2,10 +2,11 @@
 use mathlib.Core.Path.{_≡_, refl, sym, _∙_, ap, ap₂}
 use mathlib.Core.List.{List}
 use Prim.Native.Nat.{ℕ, zero, suc, _+_, _-_}
-use lib.IntN.{ℤ, pos, negsuc, negℤ, _+ℤ_, _*ℤ_, +ℤ-comm, +ℤ-assoc, +ℤ-idr, negℤ-+ℤ, zero-*ℤ}
+use lib.IntN.{ℤ, pos, negsuc, negℤ, _*ℤ_, +ℤ-comm, +ℤ-assoc, +ℤ-idr, negℤ-+ℤ, zero-*ℤ}
 use lib.ListN.{getD}
 use Rattle.algebra.proofs.Sum.{sum-related}
 use Rattle.algebra.proofs.Integer.{integers}
+use Rattle.algebra.proofs.Line.{line-negative}
 use Rattle.algebra.proofs.Ring.{neg-mul}
 use Rattle.enclosure.specs.declared.Entry.{Entry}
 use Rattle.enclosure.specs.declared.term.Factor.{Factor}
@@ -40,12 +41,8 @@ opposite-scaled (negsuc n) e =
     same-entry (sym (neg-mul integers (pos (suc n)) (e .high))) (sym (neg-mul integers (pos (suc n)) (e .low))) refl
 
 module _ (f : Factor) where
-  pub negative-line : (y : ℕ) → lineAt (negative f) y ≡ negℤ (lineAt f y)
-  negative-line y = ap (λ (z : ℤ). z +ℤ negℤ (f .constant)) (neg-mul integers (f .slope) (pos y))
-      ∙ sym (negℤ-+ℤ (f .slope *ℤ pos y) (f .constant))
-
   negative-factor : (weights : List ℕ) (y : ℕ) → lineFactor (negative f) weights y ≡ negℤ (lineFactor f weights y)
-  negative-factor weights y = ap (λ (z : ℤ). z *ℤ pos (getD weights y 0)) (negative-line (y + 1))
+  negative-factor weights y = ap (λ (z : ℤ). z *ℤ pos (getD weights y 0)) (line-negative (f .slope) (f .constant) (y + 1))
       ∙ neg-mul integers (lineAt f (y + 1)) (pos (getD weights y 0))
 
   pub opposite-sums : (from to x : ℕ) (weights : List ℕ) (row : ℕ → Entry)

@@ -19,7 +19,7 @@ use Rattle.outward.proofs.Division.{ceil-size}
 use Rattle.enclosure.specs.declared.Entry.{Entry}
 use Rattle.enclosure.specs.declared.term.Factor.{Factor}
 use Rattle.enclosure.specs.Entry.{unit, plus, scaled}
-use Rattle.enclosure.specs.Term.{TermRoom, Small, lineAt, lineFactor, termSums}
+use Rattle.enclosure.specs.Term.{TermRoom, Small, lineAt, lineFactor, termAt, termSums}
 use Rattle.enclosure.specs.Run.{FactorSmall, EntryFits}
 
 -- ---- weights
@@ -68,6 +68,9 @@ quotient-fits z d h = size-fits w64 (ceilDiv z d +ℤ pos 1) (omega (arith, size
 
 -- ---- a factor
 module _ (f : Factor) (h : FactorSmall f) where
+  pub slope-fits : SFits w64 (f .slope)
+  slope-fits = size-fits w64 (f .slope) (omega (arith, h .slope-small))
+
   pub slope-size : (y : ℕ) → y ≤ 500 → natAbs (f .slope *ℤ pos y) ≤ 500000
   slope-size y l = size-mul-le (f .slope) (pos y) 1000 500 (h .slope-small) l
 
@@ -85,9 +88,8 @@ module _ (sums : Entry) (f : Factor) (x : ℕ) (weights : List ℕ) (row : ℕ �
   pub factor-small : FactorSmall f
   factor-small = record { constant-small = h .constant-small; slope-small = h .slope-small }
 
-  -- severity y + 1
   abbrev summand : ℕ → Entry
-  summand y = scaled (lineFactor f weights y) (row (x - (y + 1)))
+  summand = termAt (lineFactor f weights) x row
 
   summand-size : (y : ℕ) → y < x → (natAbs (summand y .low) ≤ getD weights y 0 * 2000000000000000)
       × (natAbs (summand y .high) ≤ getD weights y 0 * 2000000000000000) × (natAbs (summand y .bound) ≤ getD weights y 0 * 1000000000000000)

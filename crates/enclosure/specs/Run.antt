@@ -4,7 +4,7 @@ use mathlib.Core.List.{List}
 use mathlib.Core.Path.{_≡_}
 use Prim.Native.Nat.{ℕ, _+_, _-_, _*_, _^_, _≤_, _<_}
 use lib.IntN.{ℤ, pos, natAbs, negℤ, _+ℤ_, _-ℤ_, _*ℤ_}
-use lib.Signed.{_≤ℤ_}
+use lib.Signed.{_≤ℤ_, _<ℤ_}
 use lib.ListN.{length}
 use mir.Syntax.{w64}
 use mir.Val.{SFits}
@@ -14,8 +14,8 @@ use Rattle.enclosure.specs.declared.Entry.{Entry}
 use Rattle.enclosure.specs.declared.raised.Raised.{Raised}
 use Rattle.enclosure.specs.declared.run.Run.{Run}
 use Rattle.enclosure.specs.declared.term.Factor.{Factor}
-use Rattle.enclosure.specs.Entry.{unit, none, plus, scaled}
-use Rattle.enclosure.specs.Term.{Small, lineAt, lineFactor}
+use Rattle.enclosure.specs.Entry.{unit, none, plus}
+use Rattle.enclosure.specs.Term.{Small, lineAt, lineFactor, termAt}
 
 -- ---- numbers that fit
 pub record EntryFits (e : Entry) : Type 0 where
@@ -35,18 +35,16 @@ negative f = record { constant = negℤ (f .constant); slope = negℤ (f .slope)
 abbrev pub upright : Factor → Bool → Factor
 upright f below = cond below (negative f) f
 
--- a run from severity from + 1 on, to `last` at most: at both of its ends, and so between them, the line has one sign
-pub record NextRun (f : Factor) (from last : ℕ) (run : Run) : Type 0 where
-  pub starts : run .from ≡ from
-  pub grows : from < run .to
+-- the first run of the severities 1 to `last`: up to its end the line has the run's sign, behind it the other
+pub record FirstRun (f : Factor) (last : ℕ) (run : Run) : Type 0 where
+  pub starts : run .from ≡ 0
   pub within : run .to ≤ last
-  pub first : pos 0 ≤ℤ lineAt (upright f (run .negative)) (from + 1)
-  pub final : pos 0 ≤ℤ lineAt (upright f (run .negative)) (run .to)
+  pub inside : (y : ℕ) → 0 < y → y ≤ run .to → pos 0 ≤ℤ lineAt (upright f (run .negative)) y
+  pub behind : (y : ℕ) → run .to < y → y ≤ last → lineAt (upright f (run .negative)) y <ℤ pos 0
 
 -- ---- the sums over a run, of the severities `to`, to - 1, .., from + 1
 abbrev pub runSums : Factor → ℕ → ℕ → ℕ → List ℕ → (ℕ → Entry) → Entry
-runSums f from to x weights row =
-    accumulateBack none plus to (to - from) (λ y. scaled (lineFactor f weights y) (row (x - (y + 1))))
+runSums f from to x weights row = accumulateBack none plus to (to - from) (termAt (lineFactor f weights) x row)
 
 -- raised by 2U no number is below zero
 abbrev pub raised : ℤ → ℕ
@@ -82,7 +80,7 @@ lowered r =
     record { low = pos (r .low) -ℤ excess; high = pos (r .high) -ℤ excess; bound = pos (r .bound) -ℤ excess }
 
 -- ---- what they ask for
--- the limits of a term, and a line that is zero or more at both ends of the run
+-- the limits of a term, and a line that is zero or more on the run
 pub record RunRoom (f : Factor) (from to x : ℕ) (weights : List ℕ) (row : ℕ → Entry) : Type 0 where
   pub factor-small : FactorSmall f
   pub x-small : x ≤ 500
@@ -91,8 +89,7 @@ pub record RunRoom (f : Factor) (from to x : ℕ) (weights : List ℕ) (row : �
   pub in-order : from ≤ to
   pub below-x : to ≤ x
   pub weighted : to ≤ length weights
-  pub first : pos 0 ≤ℤ lineAt f (from + 1)
-  pub final : pos 0 ≤ℤ lineAt f to
+  pub line-upright : (y : ℕ) → from < y → y ≤ to → pos 0 ≤ℤ lineAt f y
 
 -- what the raised sums of a run come to at most
 pub record RaisedSmall (r : Raised) : Type 0 where

@@ -5,7 +5,7 @@ use super::raised::run_sums;
 use super::rule::add;
 use super::rule::subtract;
 use super::run::Run;
-use super::run::next_run;
+use super::run::first_run;
 use super::run::smaller;
 use super::term::Factor;
 use super::term::negate;
@@ -16,7 +16,8 @@ ghost use Rattle.enclosure.specs.Entry.{plus};
 ghost use Rattle.enclosure.specs.Term.{TermRoom, lineFactor, entryOf, termSums};
 ghost use Rattle.enclosure.specs.Run.{EntryFits, FactorSmall, RunRoom, upright, runSums};
 
-// The sums with those over a run added. Where the factors are zero or less the sums of their sizes come off, and low and high change places.
+// The sums with those over a run added. Where the factors are zero or less, the sums with their negatives come off, and low and high
+// change places.
 fn add_run(
     sums: Entry,
     factor: Factor,
@@ -35,7 +36,7 @@ fn add_run(
         (entryOf (now (low .entry)) (now (high .entry)) (now (bound .entry)))) ⌝ }
 {
     if run.negative {
-        let sizes = run_sums(
+        let opposite = run_sums(
             negate(factor),
             run.from,
             run.to,
@@ -45,10 +46,10 @@ fn add_run(
             high,
             bound,
         );
-        return subtract(sums, sizes);
+        return subtract(sums, opposite);
     }
-    let sizes = run_sums(factor, run.from, run.to, x, weights, low, high, bound);
-    add(sums, sizes)
+    let own = run_sums(factor, run.from, run.to, x, weights, low, high, bound);
+    add(sums, own)
 }
 
 // The sums with the term's added, at total `x`: over y from 1 to the smaller of x and the number of weights.
@@ -66,13 +67,16 @@ pub fn add_term(
     ensures { λ r. ⌜ r ≡ termSums sums (lineFactor factor (now (weights .entry))) x (now (weights .entry))
         (entryOf (now (low .entry)) (now (high .entry)) (now (bound .entry))) ⌝ }
 {
-    let mut sums = sums;
     let last = smaller(x, weights.len());
-    let mut from = 0;
-    while from < last {
-        let run = next_run(factor, from, last);
-        sums = add_run(sums, factor, run, x, weights, low, high, bound);
-        from = run.to;
+    let first = first_run(factor, last);
+    let sums = add_run(sums, factor, first, x, weights, low, high, bound);
+    if first.to == last {
+        return sums;
     }
-    sums
+    let second = Run {
+        from: first.to,
+        to: last,
+        negative: !first.negative,
+    };
+    add_run(sums, factor, second, x, weights, low, high, bound)
 }

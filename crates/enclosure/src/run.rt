@@ -5,11 +5,12 @@ use super::term::Factor;
 use super::term::line_at;
 use super::term::negate;
 ghost use mathlib.Core.Path.{_≡_};
-ghost use Prim.Native.Nat.{_+_, _≤_, _<_, min};
+ghost use mathlib.Core.Bool.{false};
+ghost use Prim.Native.Nat.{_≤_, min};
 ghost use lib.IntN.{pos};
 ghost use lib.Signed.{_≤ℤ_};
 ghost use Rattle.enclosure.specs.Term.{lineAt};
-ghost use Rattle.enclosure.specs.Run.{FactorSmall, NextRun};
+ghost use Rattle.enclosure.specs.Run.{FactorSmall, FirstRun};
 
 // The severities from `from` + 1 to `to`; `negative` says that their factors are zero or less.
 pub struct Run {
@@ -24,34 +25,34 @@ pub fn smaller(a: usize, b: usize) -> usize
     if a < b { a } else { b }
 }
 
-// The last severity, up to `last`, before the line falls below zero; at `from` + 1 it is zero or more.
-fn run_end(factor: Factor, from: usize, last: usize) -> usize
-    requires { ⌜ FactorSmall factor × (from < last) × (last ≤ 500) × (pos 0 ≤ℤ lineAt factor (from + 1)) ⌝ }
-    ensures { λ r. ⌜ (from < r) × (r ≤ last) × (pos 0 ≤ℤ lineAt factor r) ⌝ }
+// Where a line that is zero or more at severity 1 stays so: up to this severity, `last` at most.
+fn run_end(factor: Factor, last: usize) -> usize
+    requires { ⌜ FactorSmall factor × (last ≤ 500) × (pos 0 ≤ℤ lineAt factor 1) ⌝ }
+    ensures { λ r. ⌜ FirstRun factor last (record { from = 0; to = r; negative = false }) ⌝ }
 {
     if 0 <= factor.slope {
         return last;
     }
-    let further = line_at(factor, from + 1) as usize / (-factor.slope) as usize;
-    smaller(from + 1 + further, last)
+    let further = line_at(factor, 1) as usize / (-factor.slope) as usize;
+    smaller(1 + further, last)
 }
 
-// The run that begins after severity `from`, up to `last`.
-pub fn next_run(factor: Factor, from: usize, last: usize) -> Run
-    requires { ⌜ FactorSmall factor × (from < last) × (last ≤ 500) ⌝ }
-    ensures { λ r. ⌜ NextRun factor from last r ⌝ }
+// The first run of the severities 1 to `last`.
+pub fn first_run(factor: Factor, last: usize) -> Run
+    requires { ⌜ FactorSmall factor × (last ≤ 500) ⌝ }
+    ensures { λ r. ⌜ FirstRun factor last r ⌝ }
 {
-    if line_at(factor, from + 1) < 0 {
-        let to = run_end(negate(factor), from, last);
+    if line_at(factor, 1) < 0 {
+        let to = run_end(negate(factor), last);
         return Run {
-            from,
+            from: 0,
             to,
             negative: true,
         };
     }
-    let to = run_end(factor, from, last);
+    let to = run_end(factor, last);
     Run {
-        from,
+        from: 0,
         to,
         negative: false,
     }

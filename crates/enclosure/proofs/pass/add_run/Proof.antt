@@ -2,7 +2,7 @@
 use borrow.Author.Needs.{needs}
 use mathlib.Core.Path.{_≡_, sym, _∙_, ap, subst}
 use Rattle.enclosure.specs.declared.Entry.{Entry}
-use Rattle.enclosure.specs.Entry.{plus, minus, opposite}
+use Rattle.enclosure.specs.Entry.{plus, minus}
 use Rattle.enclosure.specs.Term.{entryOf}
 use Rattle.enclosure.specs.Run.{EntryFits, runSums}
 use Rattle.enclosure.proofs.Scaled.{opposite-sums}
