@@ -60,9 +60,9 @@ static inline __m128i raised_bounds(__m128i bounds) { return raised(bounds); }
 static inline int64_t lowered_bound(int64_t bound, int64_t excess) { return bound - excess; }
 #endif
 
-// the sums with those of two pairs added, or of one
-static inline Sums add_pairs(Sums sums, __m128i lines, __m128i weights, Load *load, Entries entries, int64_t at) {
-    const __m128i factors = product(weights, lines);
+// the sums with those of two pairs added, or of one; the factors are the weights alone, or times the lines
+static inline Sums add_pairs(Sums sums, bool alone, __m128i lines, __m128i weights, Load *load, Entries entries, int64_t at) {
+    const __m128i factors = alone ? weights : product(weights, lines);
     sums.low = sum(sums.low, product(raised(load(entries.low + at)), factors));
     sums.high = sum(sums.high, product(raised(load(entries.high + at)), factors));
     sums.bound = sum(sums.bound, product(raised_bounds(load(entries.bound + at)), factors));
@@ -84,7 +84,7 @@ static inline Entry lowered(Sums sums) {
 
 // The sums of a run of n severities, without a negative factor. `line` is constant + slope y at the last of them, and `weights` ends with
 // its weight. Four pairs make a turn.
-static inline Entry run_sums(int64_t line, int64_t slope, size_t n, const uint64_t *weights, Entries entries) {
+static inline Entry run_sums(bool alone, int64_t line, int64_t slope, size_t n, const uint64_t *weights, Entries entries) {
     const __m128i none = _mm_setzero_si128(), step = _mm_set1_epi64x(2 * slope);
     __m128i lines = _mm_set_epi64x(line - slope, line);
     Sums sums = {none, none, none, none};
@@ -92,24 +92,26 @@ static inline Entry run_sums(int64_t line, int64_t slope, size_t n, const uint64
     int64_t at = -(int64_t)(n & ~(size_t)3);
     entries = (Entries){entries.low - at, entries.high - at, entries.bound - at};
     for (; at != 0; at += 4) {
-        sums = add_pairs(sums, lines, two_weights(weights), two, entries, at);
+        sums = add_pairs(sums, alone, lines, two_weights(weights), two, entries, at);
         lines = _mm_sub_epi64(lines, step);
-        sums = add_pairs(sums, lines, two_weights(weights - 2), two, entries, at + 2);
+        sums = add_pairs(sums, alone, lines, two_weights(weights - 2), two, entries, at + 2);
         lines = _mm_sub_epi64(lines, step);
         weights -= 4;
     }
     const size_t left = n & 2;
     if (left > 0) {
-        sums = add_pairs(sums, lines, two_weights(weights), two, entries, 0);
+        sums = add_pairs(sums, alone, lines, two_weights(weights), two, entries, 0);
         lines = _mm_sub_epi64(lines, step);
     }
-    if (n & 1) sums = add_pairs(sums, lines, one(weights - left - 1), one, entries, (int64_t)left);
+    if (n & 1) sums = add_pairs(sums, alone, lines, one(weights - left - 1), one, entries, (int64_t)left);
     return lowered(sums);
 }
 
 static Entry add_term(Entry sums, int64_t constant, int64_t slope, size_t x, const uint64_t *weights, size_t m, const int64_t *low,
                       const int64_t *high, const int64_t *bound) {
     const size_t last = x < m ? x : m;
+    // In a convolution the line is 1 throughout, and gcc knows it.
+    const bool alone = __builtin_constant_p(slope) && slope == 0 && constant == 1;
     // The last factor shall not be negative. Where it is, all factors have their signs changed, and so have the sums in the end.
     const bool changed = constant + slope * (int64_t)last < 0;
     if (changed) {
@@ -119,10 +121,10 @@ static Entry add_term(Entry sums, int64_t constant, int64_t slope, size_t x, con
     // Up to this severity no factor is above 0, and behind it none is below. The slope is positive where the constant is negative.
     const size_t cut = constant < 0 ? (size_t)-constant / (size_t)slope : 0;
     const Entries behind = {low + x - last, high + x - last, bound + x - last};
-    Entry e = run_sums(constant + slope * (int64_t)last, slope, last - cut, weights + last, behind);
+    Entry e = run_sums(alone, constant + slope * (int64_t)last, slope, last - cut, weights + last, behind);
     if (cut > 0) {
         const Entries exchanged = {high + x - cut, low + x - cut, bound + x - cut};
-        Entry f = run_sums(-constant - slope * (int64_t)cut, -slope, cut, weights + cut, exchanged);
+        Entry f = run_sums(alone, -constant - slope * (int64_t)cut, -slope, cut, weights + cut, exchanged);
         e = (Entry){e.low - f.low, e.high - f.high, e.bound + f.bound};
     }
     if (changed) e = (Entry){-e.high, -e.low, e.bound};
