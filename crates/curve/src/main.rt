@@ -2,12 +2,13 @@
 
 ghost use mathlib.Core.Path.{_≡_};
 ghost use Prim.Native.Nat.{_≤_};
-ghost use lib.ListN.{length};
+ghost use lib.ListN.{length, drop};
 ghost use Rattle.io.specs.Counts.{Counts};
 ghost use Rattle.report.specs.Report.{reportText};
 ghost use Rattle.report.specs.Room.{inputBytes};
 
-// Reads once into `rest`; the answer is the number of bytes, 0 where the input has ended or the read failed.
+// Reads once into `rest`; the answer is the number of bytes, 0 where the input has ended or the read failed. The contracts of reading
+// speak of this number alone, since libc's says nothing of the bytes.
 fn read_more(rest: &mut [u8]) -> usize
     ensures { λ r. ⌜ r ≤ length (now (rest .entry)) ⌝ }
 {
@@ -32,11 +33,28 @@ fn read_input(sheet: &mut [u8]) -> usize
     done
 }
 
-// What is written is the text of what was read.
+// Writes once from `rest`, which is the text of what was read from byte `done` on; the answer is the number of bytes, 0 where the write
+// failed.
+fn write_more(sheet: &[u8], done: usize, rest: &[u8]) -> usize
+    requires { ⌜ now rest ≡ drop done (reportText (now sheet)) ⌝ }
+    ensures { λ r. ⌜ r ≤ length (now (rest .entry)) ⌝ }
+{
+    let put = libc::write(1, rest);
+    io::count(put, rest)
+}
+
+// Writes until all of the text is written or a write fails.
 fn write_text(sheet: &[u8], text: &[u8])
     requires { ⌜ now text ≡ reportText (now sheet) ⌝ }
 {
-    io::write_all(1, text);
+    let mut done = 0;
+    while done < text.len() {
+        let more = write_more(sheet, done, &text[done..]);
+        if more == 0 {
+            return;
+        }
+        done += more;
+    }
 }
 
 fn main() {

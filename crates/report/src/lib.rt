@@ -47,7 +47,7 @@ pub fn report(sheet: &[u8], out: &mut [u8; ROOM]) -> usize
     ensures bytes { λ r. ⌜ now (out .exit) ≡ written (reportText (now (sheet .entry))) (now (out .entry)) ⌝ }
 {
     let mut row = [0u64; MOST_WEIGHTS];
-    let read = sheet::read_sheet(sheet, &mut row);
+    let read = sheet::reader::read_text(sheet, MOST_WEIGHTS, &mut row);
     let answer = read.answer;
     match answer {
         LineAnswer::Accepted => {

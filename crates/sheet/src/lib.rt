@@ -2,7 +2,7 @@
 
 mod fault;
 mod line;
-mod reader;
+pub mod reader;
 
 use fault::first_fault;
 use model::Job;

@@ -51,24 +51,24 @@ whole s row row' r h p =
     let e = p .is ∙ put-whole row (reportText s) (omega (arith, text-fits s)) in
     (ap (λ (o : Output). o .place) e, ap (λ (o : Output). o .row) e)
 
-module _ (c : tie.After-read-sheet) where
+module _ (c : tie.After-read-text) where
   abbrev sheet : List ℕ
   sheet = c .before .before .before .args .sheet .now
 
   abbrev reader : Reading
   reader = reading mostWeights sheet
 
-  tells : paper (c .read-sheet .result) (c .read-sheet .last .1 .0) ≡ told reader
-  tells = c .read-sheet .ensures .0
+  tells : paper (c .read-text .result) (c .read-text .last .1 .1 .0) ≡ told reader
+  tells = c .read-text .ensures
 
-  few : c .read-sheet .result .count ≤ 500
+  few : c .read-text .result .count ≤ 500
   few = subst (λ (n : ℕ). n ≤ 500) (sym (ap (λ (t : Told). t .count) tells)) (counted mostWeights sheet .0)
 
-  answered : (answer : LineAnswer) → c .read-sheet .result .answer ≡ answer → answerOf answer ≡ told reader .answer
+  answered : (answer : LineAnswer) → c .read-text .result .answer ≡ answer → answerOf answer ≡ told reader .answer
   answered answer e = ap answerOf (sym e) ∙ ap (λ (t : Told). t .answer) tells
 
 -- the weights have places in the row, which keeps its 500
-fits : (c : tie.After-row2) → c .before .read-sheet .result .count ≤ length (c .before .read-sheet .last .1 .0)
+fits : (c : tie.After-row2) → c .before .read-text .result .count ≤ length (c .before .read-text .last .1 .1 .0)
 fits c = omega (arith, few (c .before))
 
 returns : tie.Need-returns
