@@ -64,17 +64,17 @@ module _ (job : Job) (weights : List ℕ) (lent : Lent) (ok : curveAnswer job we
       ∙ listed-at (entry column) (job .last + 1) x (pos 0) (omega arith)
 
   -- the entry at total x of the lent rows on return
-  abbrev pub shown : ℕ → Entry
-  shown = entryOf (curveLent job weights lent .low) (curveLent job weights lent .high) (curveLent job weights lent .bound)
+  abbrev returned : ℕ → Entry
+  returned = entryOf (curveLent job weights lent .low) (curveLent job weights lent .high) (curveLent job weights lent .bound)
 
-  pub shows : (x : ℕ) → x ≤ job .last → shown x ≡ curveRows job weights 0 x
+  pub shows : (x : ℕ) → x ≤ job .last → returned x ≡ curveRows job weights 0 x
   shows x l = rw lent-ran (λ i. record {
     low = row-at (λ e. e .low) (lent .low) x l i;
     high = row-at (λ e. e .high) (lent .high) x l i;
     bound = row-at (λ e. e .bound) (lent .bound) x l i;
   })
 
-  pub entry-small : (x : ℕ) → x < job .last + 1 → Small (shown x)
+  pub entry-small : (x : ℕ) → x < job .last + 1 → Small (returned x)
   entry-small x l = subst Small (sym (shows x (omega arith))) (small job weights limits 0 x (limits .law .order-least) (no-fault x l))
 
   -- a lent row that is long enough still is on return

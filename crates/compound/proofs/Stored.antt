@@ -40,14 +40,14 @@ module _ (x : ℕ) (row row′ : ℕ → Entry) (same : (z : ℕ) → z < x → 
 
 -- ---- columns
 -- column n of row j + 1 lies in the work row
-pub column-in : (places j n : ℕ) → j ≤ 2 → n ≤ 2 → columnsAt places j + n * places + places ≤ workPlaces places
-column-in places j n h k = omega (arith, NL.mul-le-mul-right places (nine j n h k))
+pub column-within : (places j n : ℕ) → j ≤ 2 → n ≤ 2 → columnsAt places j + n * places + places ≤ workPlaces places
+column-within places j n h k = omega (arith, NL.mul-le-mul-right places (nine j n h k))
   where
     nine : (j n : ℕ) → j ≤ 2 → n ≤ 2 → 3 * j + n + 1 ≤ 9
     nine j n h k = omega arith
 
 pub columns-in : (places j : ℕ) → j ≤ 2 → columnsAt places j + places + places + places ≤ workPlaces places
-columns-in places j h = omega (arith, column-in places j 2 h (NL.le-refl 2))
+columns-in places j h = omega (arith, column-within places j 2 h (NL.le-refl 2))
 
 -- a place of a part of a row
 part-at : (work : List ℤ) (at n z : ℕ) → z < n → getD (take n (drop at work)) z (pos 0) ≡ getD work (at + z) (pos 0)
@@ -75,7 +75,7 @@ pub column-long : (places j n : ℕ) (first work : List ℤ) → j ≤ 3 → n �
     → places ≤ length (columnOf places j n first work)
 column-long places zero n first work h k l m = l
 column-long places (suc j) n first work h k l m =
-    let within = column-in places j n (omega arith) k in
+    let within = column-within places j n (omega arith) k in
     NL.le-of-eq (sym (length-take-le places (drop (columnsAt places j + n * places) work) (rw length-drop (omega arith))))
 
 -- ---- an entry that is put

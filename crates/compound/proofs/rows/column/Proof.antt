@@ -7,7 +7,7 @@ use native.Mathlib.Omega.{arith}
 use lib.ListN.{take, drop}
 use Rattle.compound.specs.Room.{columnOf}
 use Rattle.compound.proofs.Recursion.{suc-pred}
-use Rattle.compound.proofs.Stored.{column-in}
+use Rattle.compound.proofs.Stored.{column-within}
 use Rattle.compound.proofs.rows.column.Statement.{statement}
 use Rattle.compound.proofs.rows.column.Tie as tie
 
@@ -25,7 +25,7 @@ module _ (c : tie.After-columns-at) where
   within = omega (
     arith,
     c .columns-at .ensures,
-    column-in places (start .args .row - 1) (start .args .number) (omega (arith, start .pre .0)) (start .pre .1),
+    column-within places (start .args .row - 1) (start .args .number) (omega (arith, start .pre .0)) (start .pre .1),
   )
 
 returns-2 : tie.Need-returns-2
