@@ -1,5 +1,5 @@
 -- The sums of a row, term by term: a term's sums add to those before it what the definition has there, and four terms fit 64 bits.
-use mathlib.Core.Path.{_≡_, refl, sym, ap, ap₂, _∙_, subst}
+use mathlib.Core.Path.{_≡_, sym, ap, ap₂, _∙_, subst}
 use mathlib.Core.List.{List}
 use Prim.Native.Nat.{ℕ, zero, suc, _+_, _-_, _*_, _≤_, _<_, zero-le}
 use native.Mathlib.Nat as NL
@@ -31,9 +31,28 @@ unfolding sumsNext
 next-is weights x rows j = accumulate-cong none plus (severities weights x) (λ y l.
     ap₂ (λ (z : ℤ) (n : ℕ). scaled z (rows j (x - n))) (ap pos (omega arith)) (add-one y))
 
+-- terms, by their factors
+module _ (f : ℕ → Factor) (weights : List ℕ) (x : ℕ) (rows : Rows) where
+  -- what term i + 1 adds
+  abbrev termSum : ℕ → Entry
+  termSum i = termSums none (lineFactor (f i) weights) x weights (rows i)
+
+  -- the sums of the first n terms
+  abbrev pub termsBelow : ℕ → Entry
+  termsBelow n = sumOf n termSum
+
+  pub terms-more : (n : ℕ) → termSums (termsBelow n) (lineFactor (f n) weights) x weights (rows n) ≡ termsBelow (n + 1)
+  terms-more n =
+      accumulate-from none plus plus-assoc plus-none (termsBelow n) (severities weights x) _
+      ∙ accumulate-next none plus n termSum
+
 module _ (law : Law) (weights : List ℕ) (x : ℕ) where
-  -- the code's factor of a term is the definition's
-  factor-is : (i y : ℕ) → lineFactor (termFactor law x i) weights y ≡ factor law weights x i y
+  -- the factor of term i + 1
+  abbrev lawFactor : ℕ → Factor
+  lawFactor = termFactor (law .a) (law .b) x
+
+  -- which is the definition's
+  factor-is : (i y : ℕ) → lineFactor (lawFactor i) weights y ≡ factor law weights x i y
   unfolding factor
   factor-is i y =
       let a = getD (law .a) i (pos 0) *ℤ pos x in
@@ -41,33 +60,19 @@ module _ (law : Law) (weights : List ℕ) (x : ℕ) where
       ap (λ (n : ℕ). (b *ℤ pos n +ℤ a) *ℤ pos (getD weights y 0)) (add-one y)
       ∙ ap (λ (z : ℤ). z *ℤ pos (getD weights y 0)) (+ℤ-comm (b *ℤ pos (suc y)) a)
 
-  -- what term i + 1 adds
-  abbrev termSum : (ℕ → Entry) → ℕ → Entry
-  termSum row i = sumOf (severities weights x) (λ y. scaled (factor law weights x i y) (row (x - suc y)))
-
-  term-adds : (sums : Entry) (row : ℕ → Entry) (i : ℕ)
-      → termSums sums (lineFactor (termFactor law x i) weights) x weights row ≡ plus sums (termSum row i)
-  term-adds sums row i =
-      accumulate-cong sums plus (severities weights x) (λ y l.
-      ap₂ (λ (z : ℤ) (n : ℕ). scaled z (row (x - n))) (factor-is i y) (add-one y))
-      ∙ accumulate-from none plus plus-assoc plus-none sums (severities weights x)
-      (λ y. scaled (factor law weights x i y) (row (x - suc y)))
-
-  -- the sums of the first n terms
-  abbrev pub termsBelow : Rows → ℕ → Entry
-  termsBelow rows n = sumOf n (λ i. termSum (rows i) i)
-
-  pub terms-more : (rows : Rows) (n : ℕ)
-      → termSums (termsBelow rows n) (lineFactor (termFactor law x n) weights) x weights (rows n) ≡ termsBelow rows (n + 1)
-  terms-more rows n = term-adds (termsBelow rows n) (rows n) n ∙ accumulate-next none plus n (λ i. termSum (rows i) i)
-
-  pub terms-all : (rows : Rows) → termsBelow rows (law .order) ≡ sumsZero law weights rows x
+  pub terms-all : (rows : Rows) → termsBelow lawFactor weights x rows (law .order) ≡ sumsZero law weights rows x
   unfolding sumsZero
-  terms-all rows = refl
+  terms-all rows =
+      accumulate-cong none plus (law .order) (λ i l.
+      accumulate-cong none plus (severities weights x) (λ y m.
+      ap₂ (λ (z : ℤ) (n : ℕ). scaled z (rows i (x - n))) (factor-is i y) (add-one y)))
 
   module _ (places : ℕ) (lent : Lent) (ready : Ready law weights places x lent) where
     abbrev rows : Rows
     rows = stored places lent
+
+    abbrev below : ℕ → Entry
+    below = termsBelow lawFactor weights x rows
 
     pub reachable : (j : ℕ) → j < law .order → Reachable places x lent j
     reachable j l = record {
@@ -109,25 +114,22 @@ module _ (law : Law) (weights : List ℕ) (x : ℕ) where
         record { low = omega (arith, t .0, s .low); high = omega (arith, t .1, s .high); bound = omega (arith, t .2, s .bound) }
 
     -- ---- row 0
-    pub a-most : (i : ℕ) → i < law .order → natAbs (getD (law .a) i (pos 0)) ≤ 1000
-    a-most i l = ready .law-limits .a-small i (omega (arith, ready .law-limits .order-most))
+    term-room-of : (i : ℕ) → i < law .order → Size (below i) i → TermRoom (below i) (lawFactor i) x weights (rows i)
+    term-room-of i l s =
+        let limits = ready .law-limits in
+        let i-most : i ≤ 3 = omega (arith, limits .order-most) in
+        room (lawFactor i) (size-mul-le (getD (law .a) i (pos 0)) (pos x) 1000 500 (limits .a-small i (omega arith)) x-most)
+        (limits .b-small i (omega arith)) (below i) i i-most s i l
 
-    term-room-of : (i : ℕ) → i < law .order → Size (termsBelow rows i) i
-        → TermRoom (termsBelow rows i) (termFactor law x i) x weights (rows i)
-    term-room-of i l s = room (termFactor law x i)
-        (size-mul-le (getD (law .a) i (pos 0)) (pos x) 1000 500 (a-most i l) x-most)
-        (ready .law-limits .b-small i (omega (arith, ready .law-limits .order-most)))
-        (termsBelow rows i) i (omega (arith, ready .law-limits .order-most)) s i l
-
-    terms-size : (n : ℕ) → n ≤ law .order → Size (termsBelow rows n) n
-    terms-size zero l = subst (λ (e : Entry). Size e 0) (sym (accumulate-zero none plus (λ i. termSum (rows i) i))) size-none
+    terms-size : (n : ℕ) → n ≤ law .order → Size (below n) n
+    terms-size zero l = subst (λ (e : Entry). Size e 0) (sym (accumulate-zero none plus _)) size-none
     terms-size (suc n) l =
         let s = terms-size n (omega arith) in
-        subst (λ (m : ℕ). Size (termsBelow rows m) m) (add-one n)
-        (subst (λ (e : Entry). Size e (n + 1)) (terms-more rows n)
-        (size-more (termFactor law x n) (termsBelow rows n) n n (term-room-of n l s) s))
+        subst (λ (m : ℕ). Size (below m) m) (add-one n)
+        (subst (λ (e : Entry). Size e (n + 1)) (terms-more lawFactor weights x rows n)
+        (size-more (lawFactor n) (below n) n n (term-room-of n l s) s))
 
-    pub term-room : (i : ℕ) → i < law .order → TermRoom (termsBelow rows i) (termFactor law x i) x weights (rows i)
+    pub term-room : (i : ℕ) → i < law .order → TermRoom (below i) (lawFactor i) x weights (rows i)
     term-room i l = term-room-of i l (terms-size i (omega arith))
 
     -- ---- a further row
@@ -137,7 +139,7 @@ module _ (law : Law) (weights : List ℕ) (x : ℕ) where
     -- ---- the sums that are divided
     pub zero-fits : (d : ℕ) → SFits w64 (ceilDiv (sumsZero law weights rows x .bound) d +ℤ pos 1)
     zero-fits d = subst (λ (e : Entry). SFits w64 (ceilDiv (e .bound) d +ℤ pos 1)) (terms-all rows)
-        (quotient-fits (termsBelow rows (law .order) .bound) d (omega (
+        (quotient-fits (below (law .order) .bound) d (omega (
           arith,
           terms-size (law .order) (NL.le-refl _) .bound,
           ready .law-limits .order-most,

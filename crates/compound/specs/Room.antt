@@ -107,8 +107,8 @@ pub record Reachable (places x : ℕ) (lent : Lent) (j : ℕ) : Type 0 where
 
 -- ---- the entries of one total
 -- A x + B y, of term i + 1
-abbrev pub termFactor : Law → ℕ → ℕ → Factor
-termFactor law x i = record { constant = getD (law .a) i (pos 0) *ℤ pos x; slope = getD (law .b) i (pos 0) }
+abbrev pub termFactor : List ℤ → List ℤ → ℕ → ℕ → Factor
+termFactor a b x i = record { constant = getD a i (pos 0) *ℤ pos x; slope = getD b i (pos 0) }
 
 -- w(y) alone, of a further row
 abbrev pub weightAlone : Factor

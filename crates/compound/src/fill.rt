@@ -38,9 +38,11 @@ fn with_entry(faults: Faults, entry: Entry) -> Faults
     Faults { range, bound }
 }
 
-// The entries of total `x`, put into the rows; `total` is the sum of the weights.
+// The entries of total `x`, put into the rows; `a` and `b` are A_1..A_4 and B_1..B_4, `total` is the sum of the weights.
 fn fill_total(
     job: Job,
+    a: &[i64; 4],
+    b: &[i64; 4],
     total: u64,
     x: usize,
     weights: &[u64],
@@ -52,6 +54,7 @@ fn fill_total(
 ) -> Faults
     requires { ⌜ (total ≡ totalWeight (now weights)) × Limits job (now weights) ⌝ }
     requires { ⌜ Ready (job .law) (now weights) places x (lentRows (now low) (now high) (now bound) (now work)) ⌝ }
+    requires { ⌜ (now a ≡ job .law .a) × (now b ≡ job .law .b) ⌝ }
     ensures faults { λ r. ⌜ r ≡ faultsBelow (job .law .order) (entryAt job (now (weights .entry)) (stored places
         (lentRows (now (low .entry)) (now (high .entry)) (now (bound .entry)) (now (work .entry))))) x ⌝ }
     ensures rows { λ r. ⌜ Advanced job (now (weights .entry)) places x (job .law .order)
@@ -64,7 +67,20 @@ fn fill_total(
         bound: false,
     };
     for row in 0..order {
-        let entry = entry_at(job, total, x, weights, low, high, bound, work, places, row);
+        let entry = entry_at(
+            job,
+            a,
+            b,
+            total,
+            x,
+            weights,
+            low,
+            high,
+            bound,
+            work,
+            places,
+            row,
+        );
         put(low, high, bound, work, places, row, x, entry);
         faults = with_entry(faults, entry);
     }
@@ -89,8 +105,23 @@ pub fn fill(
         (lentRows (now (low .exit)) (now (high .exit)) (now (bound .exit)) (now (work .exit))) ⌝ }
 {
     let places = job.last as usize + 1;
+    // The law's terms are lent: in a law handed on by value they would be copied for every term.
+    let a = job.law.a;
+    let b = job.law.b;
     for x in 0..places {
-        let found = fill_total(job, total, x, weights, low, high, bound, work, places);
+        let found = fill_total(
+            job,
+            &a,
+            &b,
+            total,
+            x,
+            weights,
+            low,
+            high,
+            bound,
+            work,
+            places,
+        );
         if found.range {
             return CurveAnswer::Refused(Reason::Range, x);
         }

@@ -19,12 +19,10 @@ ghost use Rattle.enclosure.specs.Term.{TermRoom};
 ghost use Rattle.compound.specs.Room.{Limits, Ready, Reachable, termFactor, weightAlone, stored};
 
 // The factor of term `i` + 1: A x + B y, times w(y).
-fn term_factor(law: Law, x: usize, i: usize) -> Factor
-    requires { ⌜ (i < 4) × (x ≤ 500) × (natAbs (getD (law .a) i (pos 0)) ≤ 1000) ⌝ }
-    ensures { λ r. ⌜ r ≡ termFactor law x i ⌝ }
+fn term_factor(a: &[i64; 4], b: &[i64; 4], x: usize, i: usize) -> Factor
+    requires { ⌜ (i < 4) × (x ≤ 500) × (natAbs (getD (now a) i (pos 0)) ≤ 1000) ⌝ }
+    ensures { λ r. ⌜ r ≡ termFactor (now (a .entry)) (now (b .entry)) x i ⌝ }
 {
-    let a = law.a;
-    let b = law.b;
     Factor {
         constant: a[i] * x as i64,
         slope: b[i],
@@ -34,6 +32,8 @@ fn term_factor(law: Law, x: usize, i: usize) -> Factor
 // The sums of row 0, term by term.
 fn sums_zero<'a>(
     law: Law,
+    a: &[i64; 4],
+    b: &[i64; 4],
     x: usize,
     weights: &[u64],
     low: &'a [i64],
@@ -43,6 +43,7 @@ fn sums_zero<'a>(
     places: usize,
 ) -> Entry
     requires { ⌜ Ready law (now weights) places x (lentRows (now low) (now high) (now bound) (now work)) ⌝ }
+    requires { ⌜ (now a ≡ law .a) × (now b ≡ law .b) ⌝ }
     ensures { λ r. ⌜ r ≡ sumsZero law (now (weights .entry)) (stored places
         (lentRows (now (low .entry)) (now (high .entry)) (now (bound .entry)) (now (work .entry)))) x ⌝ }
 {
@@ -53,7 +54,7 @@ fn sums_zero<'a>(
         bound: 0,
     };
     for i in 0..order {
-        let factor = term_factor(law, x, i);
+        let factor = term_factor(a, b, x, i);
         sums = add_row(sums, factor, x, weights, low, high, bound, work, places, i);
     }
     sums
@@ -62,6 +63,8 @@ fn sums_zero<'a>(
 // The entry of row 0.
 fn entry_zero<'a>(
     law: Law,
+    a: &[i64; 4],
+    b: &[i64; 4],
     total: u64,
     x: usize,
     weights: &[u64],
@@ -73,11 +76,12 @@ fn entry_zero<'a>(
 ) -> Entry
     requires { ⌜ (1 ≤ x) × (total ≡ totalWeight (now weights)) ⌝ }
     requires { ⌜ Ready law (now weights) places x (lentRows (now low) (now high) (now bound) (now work)) ⌝ }
+    requires { ⌜ (now a ≡ law .a) × (now b ≡ law .b) ⌝ }
     ensures { λ r. ⌜ r ≡ rounded (divisorZero law (now (weights .entry)) x) (sumsZero law (now (weights .entry)) (stored places
         (lentRows (now (low .entry)) (now (high .entry)) (now (bound .entry)) (now (work .entry)))) x) ⌝ }
 {
     let divisor = law.divisor * x as u64 * total;
-    let sums = sums_zero(law, x, weights, low, high, bound, work, places);
+    let sums = sums_zero(law, a, b, x, weights, low, high, bound, work, places);
     divide_sums(sums, divisor)
 }
 
@@ -147,6 +151,8 @@ fn first_entry(start: Start, row: usize) -> Entry
 // The entry of row `row` at total `x`; `total` is the sum of the weights.
 pub fn entry_at<'a>(
     job: Job,
+    a: &[i64; 4],
+    b: &[i64; 4],
     total: u64,
     x: usize,
     weights: &[u64],
@@ -159,6 +165,7 @@ pub fn entry_at<'a>(
 ) -> Entry
     requires { ⌜ (row < job .law .order) × (total ≡ totalWeight (now weights)) × Limits job (now weights) ⌝ }
     requires { ⌜ Ready (job .law) (now weights) places x (lentRows (now low) (now high) (now bound) (now work)) ⌝ }
+    requires { ⌜ (now a ≡ job .law .a) × (now b ≡ job .law .b) ⌝ }
     ensures { λ r. ⌜ r ≡ entryAt job (now (weights .entry)) (stored places
         (lentRows (now (low .entry)) (now (high .entry)) (now (bound .entry)) (now (work .entry)))) row x ⌝ }
 {
@@ -166,7 +173,19 @@ pub fn entry_at<'a>(
         return first_entry(job.start, row);
     }
     if row == 0 {
-        return entry_zero(job.law, total, x, weights, low, high, bound, work, places);
+        return entry_zero(
+            job.law,
+            a,
+            b,
+            total,
+            x,
+            weights,
+            low,
+            high,
+            bound,
+            work,
+            places,
+        );
     }
     entry_next(total, x, weights, low, high, bound, work, places, row - 1)
 }

@@ -19,11 +19,11 @@ use Rattle.compound.proofs.fill.fill.Statement.{statement}
 use Rattle.compound.proofs.fill.fill.Tie as tie
 
 abbrev Inv-loop : tie.InvT-loop
-Inv-loop job total weights low₀ high₀ bound₀ work₀ places x₀ low high bound work x = (x ≤ job .last + 1)
+Inv-loop job total weights low₀ high₀ bound₀ work₀ places a b x₀ low high bound work x = (x ≤ job .last + 1)
     × Reached job weights (lentRows low₀ high₀ bound₀ work₀) x (lentRows low high bound work)
 
 abbrev μ-loop : tie.MeasureT-loop
-μ-loop job total weights low₀ high₀ bound₀ work₀ places x₀ low high bound work x = job .last + 1 - x
+μ-loop job total weights low₀ high₀ bound₀ work₀ places a b x₀ low high bound work x = job .last + 1 - x
 
 limits : (c : tie.Start Inv-loop μ-loop) → Limits (c .args .job) (c .args .weights .now)
 limits c = c .pre .0 .1
@@ -32,12 +32,12 @@ add-places : tie.Need-add-places Inv-loop μ-loop
 add-places c = record { fits = omega (arith, limits (c .before) .last-most) }
 
 loop-holds : tie.Need-loop-holds Inv-loop μ-loop
-loop-holds c = (search needs, reached-first _ _ (limits (c .before)) _)
+loop-holds c = (search needs, reached-first _ _ (limits (c .before .before .before)) _)
 
 -- the rows at the start and where a total is reached
 module _ (c : tie.At-loop Inv-loop μ-loop) where
   abbrev start : tie.Start Inv-loop μ-loop
-  start = c .before .before
+  start = c .before .before .before .before
 
   abbrev lent₀ : Lent
   lent₀ = lentRows (start .args .low .now) (start .args .high .now) (start .args .bound .now) (start .args .work .now)
@@ -51,10 +51,10 @@ below c = omega (arith, c .loop-test .taken)
 
 fill-total-requires : tie.Need-fill-total-requires Inv-loop μ-loop
 fill-total-requires c κs =
-    let turn = c .before .before .before .before in
+    let turn = c .before .before .before .before .before .before in
     let loop = turn .before in
     let s = start loop in
-    (s .pre .0, reached-ready _ _ (limits s) _ (s .pre .1) _ _ (loop .loop .inv .1) (below turn))
+    (s .pre .0, (reached-ready _ _ (limits s) _ (s .pre .1) _ _ (loop .loop .inv .1) (below turn), (refl, refl)))
 
 -- after the entries of a total are put
 module _ (c : tie.After-work Inv-loop μ-loop) where
@@ -62,7 +62,7 @@ module _ (c : tie.After-work Inv-loop μ-loop) where
   call = c .before .before .before .before
 
   abbrev turn : tie.In-loop Inv-loop μ-loop
-  turn = call .before .before .before .before .before
+  turn = call .before .before .before .before .before .before .before
 
   abbrev loop : tie.At-loop Inv-loop μ-loop
   loop = turn .before
@@ -78,7 +78,7 @@ module _ (c : tie.After-work Inv-loop μ-loop) where
 
   abbrev filled : Lent
   filled =
-      let rows = call .fill-total .last .1 .1 .1 .1 in
+      let rows = call .fill-total .last .1 .1 .1 .1 .1 .1 in
       lentRows (rows .0) (rows .1 .0) (rows .1 .1 .0) (rows .1 .1 .1 .0)
 
   abbrev here : Reached job weights (lent₀ loop) x (lent loop)

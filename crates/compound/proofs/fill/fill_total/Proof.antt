@@ -12,12 +12,12 @@ use Rattle.compound.proofs.fill.fill_total.Statement.{statement}
 use Rattle.compound.proofs.fill.fill_total.Tie as tie
 
 abbrev Inv-loop : tie.InvT-loop
-Inv-loop job total x weights low₀ high₀ bound₀ work₀ places order faults₀ row₀ low high bound work faults row = (row ≤ order)
+Inv-loop job a b total x weights low₀ high₀ bound₀ work₀ places order faults₀ row₀ low high bound work faults row = (row ≤ order)
     × (faults ≡ faultsBelow row (entryAt job weights (stored places (lentRows low₀ high₀ bound₀ work₀))) x)
     × Advanced job weights places x row (lentRows low₀ high₀ bound₀ work₀) (lentRows low high bound work)
 
 abbrev μ-loop : tie.MeasureT-loop
-μ-loop job total x weights low₀ high₀ bound₀ work₀ places order faults₀ row₀ low high bound work faults row = order - row
+μ-loop job a b total x weights low₀ high₀ bound₀ work₀ places order faults₀ row₀ low high bound work faults row = order - row
 
 -- the rows at the start, and what the rule makes of them
 module _ (c : tie.Start Inv-loop μ-loop) where
@@ -36,27 +36,27 @@ module _ (c : tie.At-loop Inv-loop μ-loop) where
   lent = lentRows (c .loop .low) (c .loop .high) (c .loop .bound) (c .loop .work)
 
   ready : Ready (start .args .job .law) (start .args .weights .now) (start .args .places) (start .args .x) lent
-  ready = advanced-ready _ _ _ _ _ (start .pre .1) _ _ (c .loop .inv .2)
+  ready = advanced-ready _ _ _ _ _ (start .pre .1 .0) _ _ (c .loop .inv .2)
 
 loop-holds : tie.Need-loop-holds Inv-loop μ-loop
-loop-holds c = (search needs, faults-none (rule (c .before)) (c .before .args .x), advanced-first _ _ _ _ _ (c .before .pre .1))
+loop-holds c = (search needs, faults-none (rule (c .before)) (c .before .args .x), advanced-first _ _ _ _ _ (c .before .pre .1 .0))
 
 entry-at-requires : tie.Need-entry-at-requires Inv-loop μ-loop
 entry-at-requires c κs =
     let loop = c .before .before .before .before .before in
-    ((search needs, start loop .pre .0 .0, start loop .pre .0 .1), ready loop)
+    ((search needs, start loop .pre .0 .0, start loop .pre .0 .1), (ready loop, start loop .pre .1 .1))
 
 put-requires : tie.Need-put-requires Inv-loop μ-loop
 put-requires c κs =
-    let loop = c .before .before .before .before .before .before .before .before .before .before in
-    reachable _ _ _ _ _ (ready loop) _ (search needs)
+    let turn = c .before .before .before .before .before .before .before .before .before in
+    reachable _ _ _ _ _ (ready (turn .before)) _ (turn .loop-test .taken)
 
 -- the turn in which the entry was put
 abbrev turn : tie.After-with-entry Inv-loop μ-loop → tie.In-loop Inv-loop μ-loop
 turn c = c .before .before .before .before .before .before .before .before .before .before .before .before .before .before .before
 
 add-row : tie.Need-add-row Inv-loop μ-loop
-add-row c = record { fits = omega (arith, turn c .loop-test .taken, start (turn c .before) .pre .1 .law-limits .order-most) }
+add-row c = record { fits = omega (arith, turn c .loop-test .taken, start (turn c .before) .pre .1 .0 .law-limits .order-most) }
 
 loop-less : tie.Need-loop-less Inv-loop μ-loop
 loop-less c = omega (arith, turn c .loop-test .taken)
@@ -69,11 +69,11 @@ loop-again c =
     let loop = turn c .before in
     let a = start loop .args in
     let row = loop .loop .row in
-    let is-rule = entry .entry-at .ensures ∙ entry-same _ _ _ _ _ (start loop .pre .1) _ _ (loop .loop .inv .2) row below in (
+    let is-rule = entry .entry-at .ensures ∙ entry-same _ _ _ _ _ (start loop .pre .1 .0) _ _ (loop .loop .inv .2) row below in (
       omega (arith, below),
       c .with-entry .ensures ∙ faults-more (rule (start loop)) (a .x) row _ _ (loop .loop .inv .1) is-rule,
       subst (Advanced (a .job) (a .weights .now) (a .places) (a .x) (row + 1) (lent₀ (start loop))) (sym (put .put .ensures))
-          (advanced-put _ _ _ _ _ (start loop .pre .1) _ _ (loop .loop .inv .2) below _ (entry .entry-at .ensures)),
+          (advanced-put _ _ _ _ _ (start loop .pre .1 .0) _ _ (loop .loop .inv .2) below _ (entry .entry-at .ensures)),
     )
 
 same-length : tie.Need-same-length Inv-loop μ-loop

@@ -27,9 +27,9 @@ before-below c = omega (arith, c .before .before .before .pre .0 .0)
 entry-next-requires : tie.Need-entry-next-requires
 entry-next-requires c κs =
     let s = c .before .before .before in
-    let table = s .pre .1 .table-limits in (
+    let table = s .pre .1 .0 .table-limits in (
       (omega (arith, s .pre .0 .1, table .weights-least), omega (arith, s .pre .0 .1, table .weights-most)),
-      (reachable _ _ _ _ _ (s .pre .1) _ (before-below c), next-room _ _ _ _ _ (s .pre .1) _ (before-below c)),
+      (reachable _ _ _ _ _ (s .pre .1 .0) _ (before-below c), next-room _ _ _ _ _ (s .pre .1 .0) _ (before-below c)),
     )
 
 returns-3 : tie.Need-returns-3

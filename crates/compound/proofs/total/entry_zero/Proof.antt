@@ -13,14 +13,14 @@ use Rattle.compound.proofs.total.entry_zero.Tie as tie
 module _ (c : tie.Start) where
   scaled-most : c .args .law .divisor * c .args .x ≤ 500000
   scaled-most =
-      mul-le-mul {m₂ = 500} (c .pre .1 .law-limits .divisor-most) (omega (arith, c .pre .1 .total-below, c .pre .1 .places-most))
+      mul-le-mul {m₂ = 500} (c .pre .1 .0 .law-limits .divisor-most) (omega (arith, c .pre .1 .0 .total-below, c .pre .1 .0 .places-most))
 
   divisor-most : c .args .law .divisor * c .args .x * c .args .total ≤ 500000000
-  divisor-most = mul-le-mul {m₂ = 1000} scaled-most (omega (arith, c .pre .0 .1, c .pre .1 .table-limits .weights-most))
+  divisor-most = mul-le-mul {m₂ = 1000} scaled-most (omega (arith, c .pre .0 .1, c .pre .1 .0 .table-limits .weights-most))
 
   divisor-least : 1 ≤ c .args .law .divisor * c .args .x * c .args .total
-  divisor-least = mul-pos (mul-pos (c .pre .1 .law-limits .divisor-least) (c .pre .0 .0))
-      (omega (arith, c .pre .0 .1, c .pre .1 .table-limits .weights-least))
+  divisor-least = mul-pos (mul-pos (c .pre .1 .0 .law-limits .divisor-least) (c .pre .0 .0))
+      (omega (arith, c .pre .0 .1, c .pre .1 .0 .table-limits .weights-least))
 
 mul-divisor : tie.Need-mul-divisor
 mul-divisor c = record { fits = omega (arith, scaled-most (c .before .before)) }
@@ -31,7 +31,7 @@ mul-divisor-2 c = record { fits = omega (arith, divisor-most (c .before .before)
 divide-sums-requires : tie.Need-divide-sums-requires
 divide-sums-requires c κs =
     let s = c .before .before .before in
-    (divisor-least s, omega (arith, divisor-most s), rw (c .sums-zero .ensures) (zero-fits _ _ _ _ _ (s .pre .1) _))
+    (divisor-least s, omega (arith, divisor-most s), rw (c .sums-zero .ensures) (zero-fits _ _ _ _ _ (s .pre .1 .0) _))
 
 returns : tie.Need-returns
 returns c =

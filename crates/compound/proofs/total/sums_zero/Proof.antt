@@ -6,50 +6,56 @@ use native.Mathlib.Omega.{arith}
 use Rattle.algebra.proofs.Sum.{accumulate-zero}
 use Rattle.enclosure.specs.Entry.{none, plus}
 use Rattle.compound.specs.Call.{lentRows}
-use Rattle.compound.specs.Room.{stored}
-use Rattle.compound.proofs.Sums.{termsBelow, terms-more, terms-all, reachable, a-most, term-room}
+use Rattle.compound.specs.Room.{termFactor, stored}
+use Rattle.compound.proofs.Sums.{termsBelow, terms-more, terms-all, reachable, term-room}
 use Rattle.compound.proofs.total.sums_zero.Statement.{statement}
 use Rattle.compound.proofs.total.sums_zero.Tie as tie
 
 abbrev Inv-loop : tie.InvT-loop
-Inv-loop law x weights low high bound work places order sums₀ i₀ sums i = (i ≤ order)
-    × (sums ≡ termsBelow law weights x (stored places (lentRows low high bound work)) i)
+Inv-loop a b x weights low high bound work places order sums₀ i₀ sums i = (i ≤ order)
+    × (sums ≡ termsBelow (termFactor a b x) weights x (stored places (lentRows low high bound work)) i)
 
 abbrev μ-loop : tie.MeasureT-loop
-μ-loop law x weights low high bound work places order sums₀ i₀ sums i = order - i
+μ-loop a b x weights low high bound work places order sums₀ i₀ sums i = order - i
 
 loop-holds : tie.Need-loop-holds Inv-loop μ-loop
 loop-holds c = (search needs, sym (accumulate-zero none plus _))
 
 term-factor-requires : tie.Need-term-factor-requires Inv-loop μ-loop
 term-factor-requires c κs =
-    let s = c .before .before .before in
-    (search needs, omega (arith, s .pre .total-below, s .pre .places-most), a-most _ _ _ _ _ (s .pre) (c .before .loop .i) (search needs))
+    let s = c .before .before .before in (
+      search needs,
+      omega (arith, s .pre .0 .total-below, s .pre .0 .places-most),
+      rw (s .pre .1 .0) (s .pre .0 .law-limits .a-small (c .before .loop .i) (search needs)),
+    )
 
 add-row-requires : tie.Need-add-row-requires Inv-loop μ-loop
 add-row-requires c κs =
-    let s = c .before .before .before .before in
-    let i = c .before .before .loop .i in (
-      reachable _ _ _ _ _ (s .pre) i (search needs),
-      rw (c .before .before .loop .inv .1, c .term-factor .ensures) (term-room _ _ _ _ _ (s .pre) i (search needs)),
+    let loop = c .before .before in
+    let s = loop .before .before in
+    let i = loop .loop .i in (
+      reachable _ _ _ _ _ (s .pre .0) i (search needs),
+      rw (loop .loop .inv .1, c .term-factor .ensures, s .pre .1 .0, s .pre .1 .1) (term-room _ _ _ _ _ (s .pre .0) i (search needs)),
     )
 
 loop-again : tie.Need-loop-again Inv-loop μ-loop
 loop-again c =
     let d = c .before in
-    let a = d .before .before .before .before .args in
+    let loop = d .before .before in
+    let a = loop .before .before .args in
     let lent = lentRows (a .low .now) (a .high .now) (a .bound .now) (a .work .now) in (
       search needs,
-      (rw (d .before .before .loop .inv .1, d .term-factor .ensures) at (c .add-row .ensures))
-          ∙ terms-more (a .law) (a .weights .now) (a .x) (stored (a .places) lent) (d .before .before .loop .i),
+      (rw (loop .loop .inv .1, d .term-factor .ensures) at (c .add-row .ensures))
+          ∙ terms-more (termFactor (a .a .now) (a .b .now) (a .x)) (a .weights .now) (a .x) (stored (a .places) lent) (loop .loop .i),
     )
 
 returns : tie.Need-returns Inv-loop μ-loop
 returns c =
-    let a = c .before .before .before .args in
+    let s = c .before .before .before in
+    let a = s .args in
     let lent = lentRows (a .low .now) (a .high .now) (a .bound .now) (a .work .now) in
     let all : c .before .loop .i ≡ a .law .order = search needs in
-    (rw all at (c .before .loop .inv .1))
+    (rw (all, s .pre .1 .0, s .pre .1 .1) at (c .before .loop .inv .1))
     ∙ terms-all (a .law) (a .weights .now) (a .x) (stored (a .places) lent)
 
 pub sums-zero-spec : {M : Type 1} → statement M
