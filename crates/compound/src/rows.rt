@@ -27,13 +27,13 @@ fn columns_at(places: usize, row: usize) -> usize
 }
 
 // A column of row `row`, by its number: low 0, high 1, bound 2. That of row 0 is a lent row, `first`.
-fn column<'a>(
-    first: &'a [i64],
-    work: &'a [i64],
+fn column<'rows>(
+    first: &'rows [i64],
+    work: &'rows [i64],
     places: usize,
     row: usize,
     number: usize,
-) -> &'a [i64]
+) -> &'rows [i64]
     requires { ⌜ (row ≤ 3) × (number ≤ 2) × (places ≤ 501) × (workPlaces places ≤ length (now work)) ⌝ }
     ensures { λ r. ⌜ now r ≡ columnOf places row number (now (first .entry)) (now (work .entry)) ⌝ }
 {
@@ -46,15 +46,15 @@ fn column<'a>(
 }
 
 // The sums with those of one term added, which reads row `row`.
-pub fn add_row<'a>(
+pub fn add_row<'rows>(
     sums: Entry,
     factor: Factor,
     x: usize,
     weights: &[u64],
-    low: &'a [i64],
-    high: &'a [i64],
-    bound: &'a [i64],
-    work: &'a [i64],
+    low: &'rows [i64],
+    high: &'rows [i64],
+    bound: &'rows [i64],
+    work: &'rows [i64],
     places: usize,
     row: usize,
 ) -> Entry

@@ -30,16 +30,16 @@ fn term_factor(a: &[i64; 4], b: &[i64; 4], x: usize, i: usize) -> Factor
 }
 
 // The sums of row 0, term by term.
-fn sums_zero<'a>(
+fn sums_zero<'rows>(
     law: Law,
     a: &[i64; 4],
     b: &[i64; 4],
     x: usize,
     weights: &[u64],
-    low: &'a [i64],
-    high: &'a [i64],
-    bound: &'a [i64],
-    work: &'a [i64],
+    low: &'rows [i64],
+    high: &'rows [i64],
+    bound: &'rows [i64],
+    work: &'rows [i64],
     places: usize,
 ) -> Entry
     requires { ⌜ Ready law (now weights) places x (lentRows (now low) (now high) (now bound) (now work)) ⌝ }
@@ -61,17 +61,17 @@ fn sums_zero<'a>(
 }
 
 // The entry of row 0.
-fn entry_zero<'a>(
+fn entry_zero<'rows>(
     law: Law,
     a: &[i64; 4],
     b: &[i64; 4],
     total: u64,
     x: usize,
     weights: &[u64],
-    low: &'a [i64],
-    high: &'a [i64],
-    bound: &'a [i64],
-    work: &'a [i64],
+    low: &'rows [i64],
+    high: &'rows [i64],
+    bound: &'rows [i64],
+    work: &'rows [i64],
     places: usize,
 ) -> Entry
     requires { ⌜ (1 ≤ x) × (total ≡ totalWeight (now weights)) ⌝ }
@@ -86,14 +86,14 @@ fn entry_zero<'a>(
 }
 
 // The entry of a further row: the row before it, convolved with the weights.
-fn entry_next<'a>(
+fn entry_next<'rows>(
     total: u64,
     x: usize,
     weights: &[u64],
-    low: &'a [i64],
-    high: &'a [i64],
-    bound: &'a [i64],
-    work: &'a [i64],
+    low: &'rows [i64],
+    high: &'rows [i64],
+    bound: &'rows [i64],
+    work: &'rows [i64],
     places: usize,
     before: usize,
 ) -> Entry
@@ -149,17 +149,17 @@ fn first_entry(start: Start, row: usize) -> Entry
 }
 
 // The entry of row `row` at total `x`; `total` is the sum of the weights.
-pub fn entry_at<'a>(
+pub fn entry_at<'rows>(
     job: Job,
     a: &[i64; 4],
     b: &[i64; 4],
     total: u64,
     x: usize,
     weights: &[u64],
-    low: &'a [i64],
-    high: &'a [i64],
-    bound: &'a [i64],
-    work: &'a [i64],
+    low: &'rows [i64],
+    high: &'rows [i64],
+    bound: &'rows [i64],
+    work: &'rows [i64],
     places: usize,
     row: usize,
 ) -> Entry
