@@ -26,12 +26,12 @@ line-later (pos s) c a b p h first =
 line-later (negsuc s) c a b p h first = absurd (p .le)
 
 -- ---- a line that falls
-module _ (s : ℕ) (c : ℤ) (a b : ℕ) (first : pos 0 ≤ℤ line (negsuc s) c a) where
+module _ (s : ℕ) (c : ℤ) (a : ℕ) (first : pos 0 ≤ℤ line (negsuc s) c a) where
   abbrev height : ℕ
   height = natAbs (line (negsuc s) c a)
 
-  lost : line (negsuc s) c b +ℤ pos (suc s * b) ≡ pos (height + suc s * a)
-  lost = omega (
+  lost : (b : ℕ) → line (negsuc s) c b +ℤ pos (suc s * b) ≡ pos (height + suc s * a)
+  lost b = omega (
     signed,
     split-add (line (negsuc s) c b) (pos (suc s * b)),
     split-add (negsuc s *ℤ pos a) c,
@@ -47,13 +47,13 @@ not-below s h = NL.not-suc-le-zero (ltb→lt s 0 (h .lt))
 pub line-as-far : (s c : ℤ) → LineAsFar s c
 line-as-far (pos s) c a b p first h = absurd (not-below s p)
 line-as-far (negsuc s) c a b p first h =
-    let most : suc s * b ≤ height s c a b first + suc s * a =
-    omega (arith, NL.mul-le-mul-left (suc s) h, NL.mul-div-le (height s c a b first) (suc s)) in
-    omega (signed, lost s c a b first, split-add (line (negsuc s) c b) (pos (suc s * b)))
+    let most : suc s * b ≤ height s c a first + suc s * a =
+    omega (arith, NL.mul-le-mul-left (suc s) h, NL.mul-div-le (height s c a first) (suc s)) in
+    omega (signed, lost s c a first b, split-add (line (negsuc s) c b) (pos (suc s * b)))
 
 pub line-past : (s c : ℤ) → LinePast s c
 line-past (pos s) c a b p first h = absurd (not-below s p)
 line-past (negsuc s) c a b p first h =
-    let least : height s c a b first + suc s * a < suc s * b =
-    omega (arith, NL.mul-le-mul-left (suc s) h, NL.lt-mul-div-succ (height s c a b first) (NL.zero-lt-suc s)) in
-    omega (signed, lost s c a b first, split-add (line (negsuc s) c b) (pos (suc s * b)))
+    let least : height s c a first + suc s * a < suc s * b =
+    omega (arith, NL.mul-le-mul-left (suc s) h, NL.lt-mul-div-succ (height s c a first) (NL.zero-lt-suc s)) in
+    omega (signed, lost s c a first b, split-add (line (negsuc s) c b) (pos (suc s * b)))

@@ -1,4 +1,5 @@
--- A line over the natural numbers rises or falls throughout, which tells where it is zero or more.
+-- A line over the natural numbers: its values next to each other, its negative, and where it is zero or more, as it rises or falls
+-- throughout.
 use mathlib.Core.Path.{_≡_}
 use Prim.Native.Nat.{ℕ, _+_, _/_, _≤_, _<_}
 use lib.IntN.{ℤ, pos, negℤ, natAbs, _+ℤ_, _-ℤ_, _*ℤ_}
@@ -8,9 +9,11 @@ abbrev pub line : ℤ → ℤ → ℕ → ℤ
 line slope constant n = slope *ℤ pos n +ℤ constant
 
 module _ (s c : ℤ) where
+  -- the value before is the slope less
   abbrev pub LineBefore : Type 0
   LineBefore = (n : ℕ) → line s c (n + 1) -ℤ s ≡ line s c n
 
+  -- the negative of a line is the line of the negatives
   abbrev pub LineNegative : Type 0
   LineNegative = (n : ℕ) → line (negℤ s) (negℤ c) n ≡ negℤ (line s c n)
 

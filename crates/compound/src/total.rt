@@ -29,7 +29,7 @@ fn term_factor(a: &[i64; 4], b: &[i64; 4], x: usize, i: usize) -> Factor
     }
 }
 
-// The sums of row 0, term by term.
+// The sums of row 0, term by term; `a` and `b` are the law's A_1..A_4 and B_1..B_4, here and below.
 fn sums_zero<'rows>(
     law: Law,
     a: &[i64; 4],

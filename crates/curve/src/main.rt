@@ -33,8 +33,7 @@ fn read_input(sheet: &mut [u8]) -> usize
     done
 }
 
-// Writes once from `rest`, which is the text of what was read from byte `done` on; the answer is the number of bytes, 0 where the write
-// failed.
+// Writes once: what is left of the text of `sheet` from byte `done` on. The answer is the number of bytes, 0 where the write failed.
 fn write_more(sheet: &[u8], done: usize, rest: &[u8]) -> usize
     requires { ⌜ now rest ≡ drop done (reportText (now sheet)) ⌝ }
     ensures { λ r. ⌜ r ≤ length (now (rest .entry)) ⌝ }

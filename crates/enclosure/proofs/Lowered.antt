@@ -169,7 +169,8 @@ module _ (f : Factor) (from to x : ℕ) (weights : List ℕ) (row : ℕ → Entr
           low-small = t .entry-small .low;
           high-small = t .entry-small .high;
           bound-small = omega (arith, t .entry-small .bound);
-          sums-small = rw (accumulate-next raisedNone raisedPlus i (λ i. raisedAt f x weights row (to - (i + 1)))) (run-small (i + 1) (omega arith));
+          sums-small = rw (accumulate-next raisedNone raisedPlus i (λ i. raisedAt f x weights row (to - (i + 1))))
+              (run-small (i + 1) (omega arith));
         };
         line-next = line-before (f .slope) (f .constant) y;
         line-fits = size-fits w64 (lineAt f y) (omega (arith, line-size f (h .factor-small) y (omega (arith, h .below-x, h .x-small))));

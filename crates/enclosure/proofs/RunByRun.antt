@@ -26,7 +26,7 @@ module _ (sums : Entry) (f : Factor) (x : ℕ) (weights : List ℕ) (row : ℕ �
   module _ (run : Run) (in-order : run .from ≤ run .to) (within : run .to ≤ min x (length weights)) where
     pub run-room : ((y : ℕ) → run .from < y → y ≤ run .to → pos 0 ≤ℤ lineAt (upright f (run .negative)) y)
         → RunRoom (upright f (run .negative)) (run .from) (run .to) x weights row
-    run-room h′ = record {
+    run-room signs = record {
       factor-small = upright-small f (run .negative) (factor-small sums f x weights row h);
       x-small = h .x-small;
       weights-small = h .weights-small;
@@ -34,7 +34,7 @@ module _ (sums : Entry) (f : Factor) (x : ℕ) (weights : List ℕ) (row : ℕ �
       in-order = in-order;
       below-x = omega arith;
       weighted = omega arith;
-      line-upright = h′;
+      line-upright = signs;
     }
 
     pub run-next : plus (so-far (run .from)) (runSums f (run .from) (run .to) x weights row) ≡ so-far (run .to)

@@ -110,7 +110,11 @@ module _ (sums : Entry) (f : Factor) (x : ℕ) (weights : List ℕ) (row : ℕ �
       let w = NL.le-trans (first-weights n weights) (h .weights-small) in (
         omega (arith, running-size (λ e. e .low) (λ d e. refl) sums summand _ 2000000000000000 n (λ y l. summand-size y (omega arith) .0)),
         omega (arith, running-size (λ e. e .high) (λ d e. refl) sums summand _ 2000000000000000 n (λ y l. summand-size y (omega arith) .1)),
-        omega (arith, running-size (λ e. e .bound) (λ d e. refl) sums summand _ 1000000000000000 n (λ y l. summand-size y (omega arith) .2)),
+        omega (
+          arith,
+          running-size (λ e. e .bound) (λ d e. refl) sums summand _ 1000000000000000 n
+              (λ y l. summand-size y (omega arith) .2),
+        ),
       )
 
   pub grown-fits : (n : ℕ) → n ≤ x → EntryFits (accumulate sums plus n summand)

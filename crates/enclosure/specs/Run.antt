@@ -35,10 +35,11 @@ negative f = record { constant = negℤ (f .constant); slope = negℤ (f .slope)
 abbrev pub upright : Factor → Bool → Factor
 upright f below = cond below (negative f) f
 
--- the first run of the severities 1 to `last`: up to its end the line has the run's sign, behind it the other
+-- the first run of the severities 1 to `last`, with the sign of the line at 1: up to its end the line has this sign, behind it the other
 pub record FirstRun (f : Factor) (last : ℕ) (run : Run) : Type 0 where
   pub starts : run .from ≡ 0
   pub within : run .to ≤ last
+  pub sign : pos 0 ≤ℤ lineAt (upright f (run .negative)) 1
   pub inside : (y : ℕ) → 0 < y → y ≤ run .to → pos 0 ≤ℤ lineAt (upright f (run .negative)) y
   pub behind : (y : ℕ) → run .to < y → y ≤ last → lineAt (upright f (run .negative)) y <ℤ pos 0
 

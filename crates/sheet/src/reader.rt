@@ -1,5 +1,6 @@
-// The sheet, line by line: each function reads the line due and goes on with the next. The weights go into a row of the reader's own, since
-// nothing may be written before the last line is known to be good. With an order of at most 4 the first `W` line is at most line 9.
+// The sheet, line by line: each function reads the line due and goes on with the next. The weights are written as they are read, before the
+// last line is known to be good, so the row may hold anything after a refusal. With an order of at most 4 the first `W` line is at most
+// line 9.
 
 use super::LineAnswer;
 use super::MOST_WEIGHTS;
@@ -189,7 +190,7 @@ fn read_law(rest: &[u8], places: usize, weights: &mut [u64]) -> SheetRead
     }
 }
 
-// What a sheet says to a row of `places` places.
+// What a sheet says to a row of `places` places; `weights` may hold anything after a refusal.
 pub fn read_text(sheet: &[u8], places: usize, weights: &mut [u64]) -> SheetRead
     requires { ⌜ 500 ≤ length (now weights) ⌝ }
     ensures { λ r. ⌜ paper r (now (weights .exit)) ≡ told (reading places (now (sheet .entry))) ⌝ }

@@ -25,7 +25,8 @@ module _ (c : tie.After-column3) where
   column n first = columnOf (start .args .places) (start .args .row) n first (start .args .work .now)
 
   same : (z : ℕ) → z < start .args .x
-      → stored (start .args .places) lent (start .args .row) z ≡ entryOf (column 0 (lent .low)) (column 1 (lent .high)) (column 2 (lent .bound)) z
+      → stored (start .args .places) lent (start .args .row) z
+      ≡ entryOf (column 0 (lent .low)) (column 1 (lent .high)) (column 2 (lent .bound)) z
   same z l = columns-stored (start .args .places) lent (start .args .row) z (omega (arith, start .pre .0 .total-below))
 
   long : (n : ℕ) (first : List ℤ) → n ≤ 2 → start .args .places ≤ length first → start .args .x ≤ length (column n first)

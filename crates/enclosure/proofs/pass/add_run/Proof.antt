@@ -19,7 +19,8 @@ run-sums-requires c κs =
     let s = c .before .before .before in
     (rw (c .negate .ensures) (rw (c .before .if1 .taken) at (s .pre .0 .1)), s .pre .1 .0)
 
-below : (c : tie.After-run-sums) → minus (c .before .before .before .before .args .sums) (c .run-sums .result) ≡ sum-of (c .before .before .before .before)
+below : (c : tie.After-run-sums)
+    → minus (c .before .before .before .before .args .sums) (c .run-sums .result) ≡ sum-of (c .before .before .before .before)
 unfolding sum-of
 below c = let s = c .before .before .before .before in
     ap (λ (e : Entry). minus (s .args .sums) e) (rw (c .before .negate .ensures) at (c .run-sums .ensures))

@@ -81,7 +81,8 @@ add-run-requires-2 c κs =
     rw (e .before .smaller .ensures, first-sums d) (
       (
         factor-small _ _ _ _ _ h,
-        run-room _ _ _ _ _ h (second e) (run .within) (le-refl _) (λ y l k. other-sign (s .args .factor) (first e .negative) y (run .behind y l k)),
+        run-room _ _ _ _ _ h (second e) (run .within) (le-refl _)
+            (λ y l k. other-sign (s .args .factor) (first e .negative) y (run .behind y l k)),
       ),
       (s .pre .1, run-fits _ _ _ _ _ h (second e) (run .within) (le-refl _)),
     )

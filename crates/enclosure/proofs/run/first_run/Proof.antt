@@ -30,7 +30,7 @@ run-end-requires-2 c κs =
 returns : tie.Need-returns
 returns c =
     let run = rw (c .before .negate .ensures) at (c .run-end .ensures) in
-    record { starts = run .starts; within = run .within; inside = run .inside; behind = run .behind }
+    record { starts = run .starts; within = run .within; sign = run .sign; inside = run .inside; behind = run .behind }
 
 pub first-run-spec : {M : Type 1} → statement M
 first-run-spec =

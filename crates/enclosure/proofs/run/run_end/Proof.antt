@@ -1,5 +1,5 @@
 -- By the code's test of the slope: a line that does not fall stays zero or more up to the last severity, and one that falls does for as
--- many more as its slope goes into it.
+-- many more as its slope goes into it, and no further.
 use borrow.Author.Needs.{needs}
 use mathlib.Core.Path.{_≡_, refl, sym, _∙_}
 use mathlib.Core.Bool.{false, true≢false}
@@ -27,6 +27,7 @@ returns c =
     record {
       starts = refl;
       within = NL.le-refl _;
+      sign = s .pre .2;
       inside = λ y l k. line-later (f .slope) (f .constant) 1 y rises l (s .pre .2);
       behind = λ y l k. absurd (omega arith);
     }
@@ -94,6 +95,7 @@ returns-2 c =
     record {
       starts = refl;
       within = omega arith;
+      sign = s .pre .2;
       inside = λ y l k. line-as-far (f .slope) (f .constant) 1 y (falls d .0) (s .pre .2) (omega arith);
       behind = λ y l k. line-past (f .slope) (f .constant) 1 y (falls d .0) (s .pre .2) (omega arith);
     }
