@@ -54,13 +54,13 @@ size-fits w z h = record { sfits = NL.lt-of-le-of-lt (mag-size z) h }
 pub held : (w : Width) {z v : ℤ} → mag z < 2 ^ hbits w → z ≡ v → toZ w (ofZ w z) ≡ v
 held w h e = toZ-ofZ (record { sfits = h }) ∙ e
 
--- the negative of what it holds, where that is small
+-- the negative of a small number, and of what a local holds of it
 module _ (w : Width) (z : ℤ) (h : natAbs z < 2 ^ hbits w) where
-  fits : SFits w (pos 0 -ℤ z)
-  fits = size-fits w (pos 0 -ℤ z) (omega (arith, size-sub (pos 0) z))
+  pub negative-fits : SFits w (pos 0 -ℤ z)
+  negative-fits = size-fits w (pos 0 -ℤ z) (omega (arith, size-sub (pos 0) z))
 
-  pub negative-fits : SFits w (pos 0 -ℤ toZ w (ofZ w z))
-  negative-fits = rw (toZ-ofZ (size-fits w z h)) fits
+  pub negative-local-fits : SFits w (pos 0 -ℤ toZ w (ofZ w z))
+  negative-local-fits = rw (toZ-ofZ (size-fits w z h)) negative-fits
 
   pub negative-held : toZ w (ofZ w (pos 0 -ℤ toZ w (ofZ w z))) ≡ negℤ z
-  negative-held = rw (toZ-ofZ (size-fits w z h), toZ-ofZ fits) (+ℤ-idl (negℤ z))
+  negative-held = rw (toZ-ofZ (size-fits w z h), toZ-ofZ negative-fits) (+ℤ-idl (negℤ z))

@@ -3,21 +3,22 @@ use mathlib.Core.Path.{_≡_, refl, sym, ap₂, _∙_, subst}
 use mathlib.Core.Bool.{Bool, false, _||_}
 use mathlib.Core.List.{List}
 use mathlib.Core.Logic.{_⊎_, inl, inr}
-use Prim.Native.Nat.{ℕ, zero, suc, _+_, _<_}
+use Prim.Native.Nat.{ℕ, zero, suc, _+_, _≤_, _<_}
 use native.Mathlib.Nat as NL
 use native.Mathlib.Omega.{arith}
+use lib.Dec.{lit≤}
 use Rattle.algebra.proofs.Sum.{accumulate-zero, accumulate-next}
 use Rattle.model.specs.declared.Job.{Job}
 use Rattle.enclosure.specs.declared.Entry.{Entry}
 use Rattle.compound.specs.declared.fill.Faults.{Faults}
 use Rattle.enclosure.specs.Entry.{outOfRange, boundTooLarge}
 use Rattle.compound.specs.Curve.{Rows, entryAt}
-use Rattle.compound.specs.Call.{Lent}
+use Rattle.compound.specs.Call.{Lent, workPlaces}
 use Rattle.enclosure.specs.Term.{Small}
-use Rattle.compound.specs.Room.{Reachable, Ready, columnsAt, stored, placed, faultsBelow, RowsKept, Advanced}
+use Rattle.compound.specs.Room.{Reachable, Ready, columnAt, stored, placed, faultsBelow, RowsKept, Advanced}
 use Rattle.compound.proofs.Kept.{kept-set, rows-untouched, long-kept}
 use Rattle.compound.proofs.Recursion.{entry-local}
-use Rattle.compound.proofs.Stored.{columns-in, placed-other, placed-own}
+use Rattle.compound.proofs.Stored.{column-within, placed-other, placed-own}
 use Rattle.compound.proofs.Sums.{reachable}
 
 module _ (job : Job) (weights : List ℕ) (places x : ℕ) (lent₀ : Lent) (ready : Ready (job .law) weights places x lent₀) where
@@ -53,16 +54,17 @@ module _ (job : Job) (weights : List ℕ) (places x : ℕ) (lent₀ : Lent) (rea
       work = so-far .kept .work;
     }
     placed-kept (suc j) e h =
-        let within = columns-in places j (omega (arith, h .row-most)) in
-        let below = h .total-below in
         record {
           low = so-far .kept .low;
           high = so-far .kept .high;
           bound = so-far .kept .bound;
-          work = kept-set _ _ _ (columnsAt places j + places + places + x) (e .bound) (omega (arith, within, below))
-              (kept-set _ _ _ (columnsAt places j + places + x) (e .high) (omega (arith, within, below))
-              (kept-set _ _ _ (columnsAt places j + x) (e .low) (omega (arith, within, below)) (so-far .kept .work)));
+          work = kept-set _ _ _ (columnAt places j 2 + x) (e .bound) (inside 2 (lit≤ tt))
+              (kept-set _ _ _ (columnAt places j 1 + x) (e .high) (inside 1 (lit≤ tt))
+              (kept-set _ _ _ (columnAt places j 0 + x) (e .low) (inside 0 (lit≤ tt)) (so-far .kept .work)));
         }
+      where
+        inside : (m : ℕ) → m ≤ 2 → columnAt places j m + x < workPlaces places
+        inside m k = omega (arith, column-within places j m (omega (arith, h .row-most)) k, h .total-below)
 
     -- one row more
     pub advanced-put : n < job .law .order → (e : Entry) → e ≡ entryAt job weights (stored places lent) n x

@@ -56,32 +56,24 @@ pub record LongEnough (places : ℕ) (lent : Lent) : Type 0 where
   pub work-long : workPlaces places ≤ length (lent .work)
 
 -- ---- the rows in the lent rows
--- where the columns of row j + 1 begin in the work row: low, high and bound, of as many places as there are totals
-abbrev pub columnsAt : ℕ → ℕ → ℕ
-columnsAt places j = 3 * j * places
+-- where column n of row j + 1 begins in the work row, of low 0, high 1 and bound 2; it has as many places as there are totals
+abbrev pub columnAt : ℕ → ℕ → ℕ → ℕ
+columnAt places j n = (3 * j + n) * places
 
--- column n of row j, of low 0, high 1 and bound 2: for row 0 a lent row
+-- column n of row j: for row 0 a lent row
 abbrev pub columnOf : ℕ → ℕ → ℕ → List ℤ → List ℤ → List ℤ
 columnOf places zero n first work = first
-columnOf places (suc j) n first work = take places (drop (columnsAt places j + n * places) work)
+columnOf places (suc j) n first work = take places (drop (columnAt places j n) work)
 
--- the entry at total z of the three columns that begin at a place
-abbrev pub columnEntry : List ℤ → ℕ → ℕ → ℕ → Entry
-columnEntry work at places z = record {
-  low = getD work (at + z) (pos 0);
-  high = getD work (at + places + z) (pos 0);
-  bound = getD work (at + places + places + z) (pos 0);
-}
-
--- row 0 lies in the three rows, row j + 1 in its columns
+-- the rows, read from their columns
 abbrev pub stored : ℕ → Lent → Rows
-stored places lent zero z = entryOf (lent .low) (lent .high) (lent .bound) z
-stored places lent (suc j) z = columnEntry (lent .work) (columnsAt places j) places z
+stored places lent j = entryOf (columnOf places j 0 (lent .low) (lent .work)) (columnOf places j 1 (lent .high) (lent .work))
+    (columnOf places j 2 (lent .bound) (lent .work))
 
--- and an entry put there
+-- an entry put at total x of the columns of row j + 1
 abbrev pub putColumns : List ℤ → ℕ → ℕ → ℕ → Entry → List ℤ
-putColumns work at places x e =
-    set (set (set work (at + x) (e .low)) (at + places + x) (e .high)) (at + places + places + x) (e .bound)
+putColumns work places j x e =
+    set (set (set work (columnAt places j 0 + x) (e .low)) (columnAt places j 1 + x) (e .high)) (columnAt places j 2 + x) (e .bound)
 
 -- an entry put at total x of row j
 abbrev pub placed : ℕ → Lent → ℕ → ℕ → Entry → Lent
@@ -95,7 +87,7 @@ placed places lent (suc j) x e = record {
   low = lent .low;
   high = lent .high;
   bound = lent .bound;
-  work = putColumns (lent .work) (columnsAt places j) places x e;
+  work = putColumns (lent .work) places j x e;
 }
 
 -- a row of the lent rows that a function may read or write at total x

@@ -4,13 +4,13 @@ use enclosure::Entry;
 use enclosure::pass::add_term;
 use enclosure::term::Factor;
 ghost use mathlib.Core.Path.{_≡_};
-ghost use Prim.Native.Nat.{_+_, _-_, _≤_, _<_};
+ghost use Prim.Native.Nat.{_-_, _≤_, _<_};
 ghost use lib.IntN.{pos};
 ghost use lib.ListN.{length, set, replicate};
 ghost use Rattle.algebra.specs.Slice.{written};
 ghost use Rattle.compound.specs.Call.{lentRows, workPlaces};
 ghost use Rattle.enclosure.specs.Term.{TermRoom, lineFactor, termSums};
-ghost use Rattle.compound.specs.Room.{Reachable, columnsAt, columnOf, stored, putColumns, placed};
+ghost use Rattle.compound.specs.Room.{Reachable, columnAt, columnOf, stored, putColumns, placed};
 
 // Low, high and bound.
 const COLUMNS: usize = 3;
@@ -18,15 +18,15 @@ const COLUMNS: usize = 3;
 // The columns of the work row: those of the rows 1 to 3.
 pub const WORK_COLUMNS: usize = 9;
 
-// Where the columns of a further row begin, of `places` places each.
-fn columns_at(places: usize, row: usize) -> usize
-    requires { ⌜ (1 ≤ row) × (row ≤ 3) × (places ≤ 501) ⌝ }
-    ensures { λ r. ⌜ r ≡ columnsAt places (row - 1) ⌝ }
+// Where a column of a further row begins, by its number: low 0, high 1, bound 2.
+fn column_at(places: usize, row: usize, number: usize) -> usize
+    requires { ⌜ (1 ≤ row) × (row ≤ 3) × (number ≤ 2) × (places ≤ 501) ⌝ }
+    ensures { λ r. ⌜ r ≡ columnAt places (row - 1) number ⌝ }
 {
-    COLUMNS * (row - 1) * places
+    (COLUMNS * (row - 1) + number) * places
 }
 
-// A column of row `row`, by its number: low 0, high 1, bound 2. That of row 0 is a lent row, `first`.
+// A column of row `row`, by its number. That of row 0 is a lent row, `first`.
 fn column<'rows>(
     first: &'rows [i64],
     work: &'rows [i64],
@@ -40,7 +40,7 @@ fn column<'rows>(
     if row == 0 {
         return first;
     }
-    let at = columns_at(places, row) + number * places;
+    let at = column_at(places, row, number);
     let end = at + places;
     &work[at..end]
 }
@@ -84,14 +84,14 @@ fn put_first(low: &mut [i64], high: &mut [i64], bound: &mut [i64], x: usize, ent
     bound[x] = b;
 }
 
-// An entry put at total `x` of the columns that begin at `at`.
-fn put_further(work: &mut [i64], at: usize, places: usize, x: usize, entry: Entry)
-    requires { ⌜ (x < places) × (at + places + places + places ≤ length (now work)) ⌝ }
-    ensures { λ r. ⌜ now (work .exit) ≡ putColumns (now (work .entry)) at places x entry ⌝ }
+// An entry put at total `x` of a further row.
+fn put_further(work: &mut [i64], places: usize, row: usize, x: usize, entry: Entry)
+    requires { ⌜ (1 ≤ row) × (row ≤ 3) × (places ≤ 501) × (x < places) × (workPlaces places ≤ length (now work)) ⌝ }
+    ensures { λ r. ⌜ now (work .exit) ≡ putColumns (now (work .entry)) places (row - 1) x entry ⌝ }
 {
-    let low_at = at + x;
-    let high_at = at + places + x;
-    let bound_at = at + places + places + x;
+    let low_at = column_at(places, row, 0) + x;
+    let high_at = column_at(places, row, 1) + x;
+    let bound_at = column_at(places, row, 2) + x;
     let l = entry.low;
     work[low_at] = l;
     let h = entry.high;
@@ -119,8 +119,7 @@ pub fn put(
         put_first(low, high, bound, x, entry);
         return;
     }
-    let at = columns_at(places, row);
-    put_further(work, at, places, x, entry);
+    put_further(work, places, row, x, entry);
 }
 
 // Zeros in the first `n` places.

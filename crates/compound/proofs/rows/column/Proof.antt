@@ -11,20 +11,17 @@ use Rattle.compound.proofs.Stored.{column-within}
 use Rattle.compound.proofs.rows.column.Statement.{statement}
 use Rattle.compound.proofs.rows.column.Tie as tie
 
-module _ (c : tie.After-columns-at) where
+module _ (c : tie.After-column-at) where
   abbrev start : tie.Start
   start = c .before .before
 
   abbrev places : ℕ
   places = start .args .places
 
-  abbrev at : ℕ
-  at = c .columns-at .result + start .args .number * places
-
-  within : at + places ≤ 9 * places
+  within : c .column-at .result + places ≤ 9 * places
   within = omega (
     arith,
-    c .columns-at .ensures,
+    c .column-at .ensures,
     column-within places (start .args .row - 1) (start .args .number) (omega (arith, start .pre .0)) (start .pre .1),
   )
 
@@ -32,10 +29,10 @@ returns-2 : tie.Need-returns-2
 returns-2 c =
     let d = c .before in
     let a = start d .args in
-    let one-part = NL.add-sub-cancel-left (at d) (places d) in
+    let one-part = NL.add-sub-cancel-left (d .column-at .result) (places d) in
     let row = suc-pred (a .row) (d .before .if1 .left) in
-    ap (λ (n : ℕ). take n (drop (at d) (a .work .now))) one-part
-    ∙ ap (λ (k : ℕ). take (places d) (drop (k + a .number * places d) (a .work .now))) (d .columns-at .ensures)
+    ap (λ (n : ℕ). take n (drop (d .column-at .result) (a .work .now))) one-part
+    ∙ ap (λ (k : ℕ). take (places d) (drop k (a .work .now))) (d .column-at .ensures)
     ∙ ap (λ (j : ℕ). columnOf (places d) j (a .number) (a .first .now) (a .work .now)) (sym row)
 
 pub column-spec : {M : Type 1} → statement M
@@ -44,8 +41,6 @@ column-spec =
     (tie.spec
     (λ c. search needs)
     (λ c κs. search needs)
-    (λ c. let w = within c in search needs)
-    (λ c. let w = within c in search needs)
     (λ c. let w = within c in search needs)
     (λ c. let w = within c in search needs)
     (λ c. search needs)

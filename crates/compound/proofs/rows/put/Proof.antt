@@ -1,10 +1,8 @@
--- Row 0 is put where it is lent, a further row into its columns, which lie in the work row.
+-- Row 0 is put where it is lent, a further row into its columns.
 use borrow.Author.Needs.{needs}
 use mathlib.Core.Path.{refl, _∙_}
-use Prim.Native.Nat.{_-_}
-use native.Mathlib.Omega.{arith}
 use Rattle.compound.specs.Call.{lentRows}
-use Rattle.compound.proofs.Stored.{columns-in, same-lent, placed-first, placed-further}
+use Rattle.compound.proofs.Stored.{same-lent, placed-first, placed-further}
 use Rattle.compound.proofs.rows.put.Statement.{statement}
 use Rattle.compound.proofs.rows.put.Tie as tie
 
@@ -18,22 +16,13 @@ returns c =
 
 put-further-requires : tie.Need-put-further-requires
 put-further-requires c κs =
-    let s = c .before .before .before in
-    let reach = s .pre in (
-      search needs,
-      omega (
-        arith,
-        c .before .columns-at .ensures,
-        columns-in (s .args .places) (s .args .row - 1) (omega (arith, reach .row-most)),
-        reach .long .work-long,
-      ),
-    )
+    let reach = c .before .before .pre in
+    (search needs, reach .row-most, reach .places-most, reach .total-below, reach .long .work-long)
 
 returns-2 : tie.Need-returns-2
 returns-2 c =
-    let d = c .before .before .before in
-    same-lent refl refl refl (c .before .put-further .ensures)
-    ∙ placed-further _ _ _ _ _ _ (d .before .if1 .left) (d .columns-at .ensures)
+    let d = c .before .before in
+    same-lent refl refl refl (c .before .put-further .ensures) ∙ placed-further _ _ _ _ _ (d .before .if1 .left)
 
 pub put-spec : {M : Type 1} → statement M
 put-spec =
@@ -44,7 +33,6 @@ put-spec =
     (λ c. search needs)
     (λ c. search needs)
     returns
-    (λ c κs. search needs)
     put-further-requires
     (λ c. search needs)
     returns-2)

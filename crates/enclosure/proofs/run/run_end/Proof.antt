@@ -13,7 +13,7 @@ use mir.Syntax.{w64}
 use mir.Val.{toZ, ofZ}
 use mir.Facts.{toZ-ofZ}
 use Rattle.algebra.proofs.Line.{line-later, line-as-far, line-past}
-use Rattle.algebra.proofs.Size.{size-neg, negative-fits, negative-held, held}
+use Rattle.algebra.proofs.Size.{size-neg, negative-local-fits, negative-held, held}
 use Rattle.enclosure.specs.Term.{lineAt}
 use Rattle.enclosure.proofs.Sizes.{slope-fits, line-size}
 use Rattle.enclosure.proofs.run.run_end.Statement.{statement}
@@ -69,7 +69,7 @@ cast-further : tie.Need-cast-further
 cast-further c = rw (line-is c) (yes-nonNeg (start c .pre .2), record { fits = omega (arith, line-small c) })
 
 sub-further : tie.Need-sub-further
-sub-further c = let s = start (c .before .before) in negative-fits w64 (s .args .factor .slope) (omega (arith, s .pre .0 .slope-small))
+sub-further c = let s = start (c .before .before) in negative-local-fits w64 (s .args .factor .slope) (omega (arith, s .pre .0 .slope-small))
 
 cast-further-2 : tie.Need-cast-further-2
 cast-further-2 c =
