@@ -66,7 +66,7 @@ ofRest signs count (parts part rest) = fields signs count part rest
 ofRest signs count (wrong n) = faulty n
 
 -- a line with a field or more is its keyword and its fields
-line-fields : (signs : Bool) (keyword : List ℕ) (count : ℕ) (s : List ℕ)
+pub line-fields : (signs : Bool) (keyword : List ℕ) (count : ℕ) (s : List ℕ)
     → line signs keyword (suc count) s ≡ ofRest signs (suc count) (afterKeyword keyword s)
 unfolding line afterKeyword fields
 line-fields signs keyword count s =

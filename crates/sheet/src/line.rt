@@ -2,9 +2,11 @@
 
 use super::Reason;
 use text::Number;
+use text::NumberLine;
 use text::lines::same;
 use text::lines::until;
 use text::numbers::number;
+use text::numbers::number_line;
 ghost use mathlib.Core.Path.{_≡_};
 ghost use mathlib.Core.Bool.{true, false};
 ghost use mathlib.Core.List.{List};
@@ -12,6 +14,7 @@ ghost use Prim.Native.Nat.{ℕ, _≤_};
 ghost use lib.IntN.{natAbs};
 ghost use lib.ListN.{length};
 ghost use Rattle.text.specs.Numbers.{signFits};
+ghost use Rattle.sheet.specs.Sheet.{W};
 ghost use Rattle.sheet.specs.Line.{line};
 ghost use Rattle.sheet.specs.Parts.{afterKeyword, headOf, headWithin, fields, lastOf, lineOf, nextOf};
 
@@ -81,6 +84,20 @@ pub fn read_one(rest: &[u8], keyword: &[u8]) -> LineRead
             Last::Value(z) => LineRead::Numbers(z, 0, end + 1),
         },
     }
+}
+
+// A line `W n`, of which a sheet may have 500. A good one, of 4 bytes or more, is read in one pass; any other is read as every line is, which
+// finds its refusal.
+pub fn read_weight(rest: &[u8]) -> LineRead
+    ensures { λ r. ⌜ lineOf 1 (now (rest .entry)) r ≡ line false W 1 (now (rest .entry)) ⌝ }
+    ensures { λ r. ⌜ nextOf r ≤ length (now (rest .entry)) ⌝ }
+{
+    if 3 < rest.len() && rest[0] == b'W' && rest[1] == b' ' {
+        if let NumberLine::Value(w, next) = number_line(&rest[2..]) {
+            return LineRead::Numbers(w as i64, 0, 2 + next);
+        }
+    }
+    read_one(rest, b"W")
 }
 
 // A line `KEYWORD n n`; `signs` says whether its numbers may have a sign.

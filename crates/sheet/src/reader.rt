@@ -9,6 +9,7 @@ use super::SheetRead;
 use super::line::LineRead;
 use super::line::read_one;
 use super::line::read_two;
+use super::line::read_weight;
 use super::line::whole;
 use model::Job;
 use model::Law;
@@ -57,7 +58,7 @@ fn read_weights(rest: &[u8], count: usize, line: usize, job: Job, weights: &mut 
 {
     let mut left = rest;
     for i in 0..count {
-        match read_one(left, b"W") {
+        match read_weight(left) {
             LineRead::Refused(reason) => return refused(reason, line + i),
             LineRead::Numbers(w, _, next) => {
                 weights[i] = whole(w);

@@ -3,12 +3,12 @@
 use mathlib.Core.Path.{_≡_, refl, sym, ap, _∙_, subst}
 use mathlib.Core.Bool.{Bool, true, false, _&&_, _||_, not, cond, false≢true, or-true, and-false, and-eq-true-iff}
 use mathlib.Core.List.{List, [], _∷_, _++_, append-nil, append-assoc}
-use mathlib.Core.Option.{none, some, Option·some-injective, Option·none-ne-some}
+use mathlib.Core.Option.{Option, none, some, Option·some-injective, Option·none-ne-some}
 use Prim.Native.Nat.{ℕ, zero, suc, _+_, _-_, _*_, _/_, _%_, _^_, _≤_, _<_}
 use native.Mathlib.Nat as NL
 use native.Mathlib.Omega.{arith}
 use borrow.Author.Tests.{ltb-true, ltb-false, leb-true, eqb-true, eqb-false, le-ltb, lt-ltb, le-leb, ne-eqb, not-true}
-use lib.Dec.{leb, eqb, ltb, eqb·suc-zero}
+use lib.Dec.{eqb, ltb, eqb·suc-zero}
 use lib.IntN.{ℤ, pos, negsuc, negℤ, natAbs}
 use lib.ListN.{length, drop, length-append}
 use Rattle.algebra.specs.Table.{every}
@@ -16,8 +16,9 @@ use Rattle.algebra.proofs.Or.{or-no}
 use Rattle.algebra.proofs.Table.{every-append}
 use Rattle.text.specs.Lines.{has}
 use Rattle.text.specs.Numbers.{zeroDigit, isDigit, minus, startsWith, isNumeral, valueFrom, value, negativeOf, number}
-use Rattle.text.specs.Numbers.{digit, digitsWithin, digits, decimal, AtMostTenDigits, signFits, NumberIsDecimal, DecimalIsNumber}
-use Rattle.text.proofs.Read.{digit-range}
+use Rattle.text.specs.Numbers.{digit, digitsWithin, digits, decimal, AtMostTenDigits}
+use Rattle.text.specs.Numbers.{IsDecimal, NumberIsDecimal, DecimalIsNumber, NumberExactly}
+use Rattle.text.proofs.Read.{digit-range, numeral-tests}
 use Rattle.text.proofs.Words.{has-append}
 
 -- the digits of n have a property where one digit has it for n below 10, and a tenth's digits with one more for the others
@@ -131,13 +132,6 @@ decimal-is-number signs (pos n) h e = rw (digits-numeral n h) (ap (λ (v : ℕ).
 decimal-is-number false (negsuc n) h e = absurd (false≢true e)
 decimal-is-number true (negsuc n) h e = rw (and-false _, digits-numeral (suc n) h, value-digits 19 (suc n), eqb·suc-zero n)
 
--- ---- tests that all passed
-four : (p q r s : Bool) → (p && q && r && s) ≡ true → (p ≡ true) × (q ≡ true) × (r ≡ true) × (s ≡ true)
-four true true true s e = (refl, refl, refl, e)
-four true true false s e = absurd (false≢true e)
-four true false r s e = absurd (false≢true e)
-four false q r s e = absurd (false≢true e)
-
 -- ---- what is read is written again
 same-digit : (b : ℕ) → isDigit b ≡ true → digit (b - zeroDigit) ≡ b ∷ []
 same-digit b e = ap (λ (x : ℕ). x ∷ []) (omega (arith, digit-range b e))
@@ -184,7 +178,7 @@ numeral-written [] e = absurd (false≢true e)
 numeral-written (b ∷ w) e =
     let one = eqb (suc (length w)) 1 in
     let other = not (eqb b zeroDigit) in
-    let t = four (leb 1 (suc (length w))) (leb (suc (length w)) 10) (one || other) (every isDigit (b ∷ w)) e in
+    let t = numeral-tests (b ∷ w) e in
     let each = and-eq-true-iff (isDigit b) (every isDigit w) .0 (t .3) in
     let range = digit-range b (each .0) in
     let few : suc (length w) ≤ 10 = leb-true (suc (length w)) 10 (t .1) in
@@ -205,25 +199,23 @@ value-below n (b ∷ w) e =
     let most : suc next ≤ suc n * 10 = omega (arith, digit-range b (t .0)) in
     rw (NL.pow-suc 10 (length w)) (omega (arith, value-below next w (t .1), NL.mul-le-mul-right (10 ^ length w) most))
 
+pub digits-below : (w : List ℕ) → every isDigit w ≡ true → length w ≤ 10 → value w < 10 ^ 10
+digits-below w e h = omega (arith, value-below 0 w e, NL.pow-le-pow-right {n = 10} (omega arith) h)
+
 numeral-below : (w : List ℕ) → isNumeral w ≡ true → value w < 10 ^ 10
-numeral-below w e =
-    let t = four (leb 1 (length w)) (leb (length w) 10) (eqb (length w) 1 || not (startsWith zeroDigit w)) (every isDigit w) e in
-    omega (arith, value-below 0 w (t .3), NL.pow-le-pow-right {n = 10} (omega arith) (leb-true (length w) 10 (t .1)))
+numeral-below w e = let t = numeral-tests w e in digits-below w (t .3) (leb-true (length w) 10 (t .1))
 
--- what is to be shown of a word w that is the number z
-abbrev Said : Bool → List ℕ → ℤ → Type 0
-Said signs w z = (w ≡ decimal z) × AtMostTenDigits z × (signFits signs z ≡ true)
-
-negative-said : (w : List ℕ) (z : ℤ) → startsWith minus w ≡ true → negativeOf (drop 1 w) ≡ some z → Said true w z
+-- what a word is that is a number
+negative-said : (w : List ℕ) (z : ℤ) → startsWith minus w ≡ true → negativeOf (drop 1 w) ≡ some z → IsDecimal true w z
 unfolding decimal
 negative-said [] z m e = absurd (false≢true m)
 negative-said (b ∷ w) z m e = by (isNumeral w) refl (value w) refl e
   where
     by : (p : Bool) → isNumeral w ≡ p → (n : ℕ) → value w ≡ n → cond (p && not (eqb n 0)) (some (negℤ (pos n))) none ≡ some z
-        → Said true (b ∷ w) z
+        → IsDecimal true (b ∷ w) z
     by false t n v h = absurd (Option·none-ne-some z h)
     by true t zero v h = absurd (Option·none-ne-some z h)
-    by true t (suc n) v h = subst (Said true (b ∷ w)) (Option·some-injective _ _ (rw (eqb·suc-zero n) at h)) (
+    by true t (suc n) v h = subst (IsDecimal true (b ∷ w)) (Option·some-injective _ _ (rw (eqb·suc-zero n) at h)) (
       (λ i. eqb-true b minus m i ∷ (numeral-written w t ∙ ap digits v) i),
       subst (λ k. k < 10 ^ 10) v (numeral-below w t),
       refl,
@@ -234,8 +226,21 @@ unfolding number decimal
 number-is-decimal signs w z e = by signs (isNumeral w) refl (startsWith minus w) refl e
   where
     by : (signs : Bool) (p : Bool) → isNumeral w ≡ p → (q : Bool) → startsWith minus w ≡ q
-        → cond p (some (pos (value w))) (cond (signs && q) (negativeOf (drop 1 w)) none) ≡ some z → Said signs w z
-    by signs true t q u h = subst (Said signs w) (Option·some-injective _ _ h) (numeral-written w t, numeral-below w t, refl)
+        → cond p (some (pos (value w))) (cond (signs && q) (negativeOf (drop 1 w)) none) ≡ some z → IsDecimal signs w z
+    by signs true t q u h = subst (IsDecimal signs w) (Option·some-injective _ _ h) (numeral-written w t, numeral-below w t, refl)
     by true false t true u h = negative-said w z u h
     by true false t false u h = absurd (Option·none-ne-some z h)
     by false false t q u h = absurd (Option·none-ne-some z h)
+
+pub number-exactly : NumberExactly
+number-exactly signs w = (
+  λ z. (number-is-decimal signs w z, read-back z),
+  (λ e z d. Option·none-ne-some z (sym e ∙ read-back z d), by (number signs w) refl),
+)
+  where
+    read-back : (z : ℤ) → IsDecimal signs w z → number signs w ≡ some z
+    read-back z d = ap (number signs) (d .0) ∙ decimal-is-number signs z (d .1) (d .2)
+
+    by : (o : Option ℤ) → number signs w ≡ o → ((z : ℤ) → IsDecimal signs w z → ⊥) → o ≡ none
+    by none e h = refl
+    by (some z) e h = absurd (h z (number-is-decimal signs w z e))

@@ -4,4 +4,5 @@ pub mod Scan
 pub mod Read
 pub mod Words
 pub mod Decimal
+pub mod Leading
 pub mod Put

@@ -1,18 +1,20 @@
 -- Words as numbers: one digit more by `drop-next`, and the rule of a number at each of the tests that the code makes.
-use mathlib.Core.Path.{_≡_, refl, sym}
-use mathlib.Core.Bool.{Bool, true, false, cond, or-true, and-false, and-eq-true-iff, true≢false}
+use mathlib.Core.Path.{_≡_, refl, sym, ap, _∙_}
+use mathlib.Core.Bool.{Bool, true, false, _&&_, _||_, not, cond, and-false, and-eq-true-iff, true≢false}
 use mathlib.Core.List.{List, [], _∷_}
-use mathlib.Core.Option.{none, some}
-use Prim.Native.Nat.{ℕ, _+_, _-_, _*_, _≤_, _<_}
+use mathlib.Core.Option.{Option, none, some, Option·some-injective, Option·none-ne-some}
+use Prim.Native.Nat.{ℕ, _+_, _≤_}
 use native.Mathlib.Nat as NL
 use native.Mathlib.Omega.{arith}
-use borrow.Author.Tests.{eq-eqb, ne-eqb, le-leb, lt-leb, leb-true, eqb-true}
+use borrow.Author.Tests.{eq-eqb, ne-eqb, leb-true, eqb-true}
 use lib.Dec.{leb, eqb}
 use lib.IntN.{ℤ, pos, negℤ}
 use lib.ListN.{length, drop, getD}
 use Rattle.algebra.specs.Table.{every}
-use Rattle.algebra.proofs.Slice.{drop-next}
-use Rattle.text.specs.Numbers.{zeroDigit, isDigit, minus, startsWith, isNumeral, valueFrom, value, digitsAfter, negativeOf, number}
+use Rattle.text.specs.Bytes.{lineEnd}
+use Rattle.text.specs.Lines.{before, has}
+use Rattle.text.specs.Numbers.{withPlace, numberLine}
+use Rattle.text.specs.Numbers.{zeroDigit, isDigit, minus, startsWith, isNumeral, value, negativeOf, number}
 
 -- ---- the first byte
 pub starts-empty : (b : ℕ) (w : List ℕ) → length w ≤ 0 → startsWith b w ≡ false
@@ -33,37 +35,27 @@ digit-range b e =
     let t = and-eq-true-iff (leb zeroDigit b) (leb b 0x39) .0 e in
     (leb-true zeroDigit b (t .0), leb-true b 0x39 (t .1))
 
--- the byte at i is no digit, and it is one
-module _ (n : ℕ) (w : List ℕ) (i : ℕ) (h : i < length w) where
-  pub digits-end : isDigit (getD w i 0) ≡ false → digitsAfter n (drop i w) ≡ none
-  digits-end e = rw (drop-next w i 0 h, e)
-
-  pub digits-next : isDigit (getD w i 0) ≡ true
-      → digitsAfter n (drop i w) ≡ digitsAfter (n * 10 + (getD w i 0 - zeroDigit)) (drop (i + 1) w)
-  unfolding valueFrom
-  digits-next e = rw (drop-next w i 0 h, e)
-
 -- ---- numbers without a sign
+-- tests that all passed
+four : (p q r s : Bool) → (p && q && r && s) ≡ true → (p ≡ true) × (q ≡ true) × (r ≡ true) × (s ≡ true)
+four true true true s e = (refl, refl, refl, e)
+four true true false s e = absurd (true≢false (sym e))
+four true false r s e = absurd (true≢false (sym e))
+four false q r s e = absurd (true≢false (sym e))
+
 module _ (w : List ℕ) where
-  pub number-short : length w < 1 → number false w ≡ none
-  unfolding number
-  number-short h = simp (lt-leb 1 (length w) h)
+  pub numeral-tests : isNumeral w ≡ true
+      → (leb 1 (length w) ≡ true) × (leb (length w) 10 ≡ true) × ((eqb (length w) 1 || not (startsWith zeroDigit w)) ≡ true)
+      × (every isDigit w ≡ true)
+  numeral-tests e = four (leb 1 (length w)) (leb (length w) 10) (eqb (length w) 1 || not (startsWith zeroDigit w)) (every isDigit w) e
 
-  pub number-long : 10 < length w → number false w ≡ none
+  pub number-numeral : isNumeral w ≡ true → number false w ≡ some (pos (value w))
   unfolding number
-  number-long h = simp (le-leb 1 (length w) (omega arith), lt-leb (length w) 10 h)
+  number-numeral e = rw e
 
-  pub number-zeros : 1 < length w → startsWith zeroDigit w ≡ true → number false w ≡ none
+  pub number-other : isNumeral w ≡ false → number false w ≡ none
   unfolding number
-  number-zeros h e = simp (ne-eqb (length w) 1 (omega arith), e, and-false)
-
-  pub number-one : length w ≡ 1 → number false w ≡ digitsAfter 0 w
-  unfolding number
-  number-one e = simp (le-leb 1 (length w) (omega arith), le-leb (length w) 10 (omega arith), eq-eqb (length w) 1 e)
-
-  pub number-many : 1 ≤ length w → length w ≤ 10 → startsWith zeroDigit w ≡ false → number false w ≡ digitsAfter 0 w
-  unfolding number
-  number-many h k e = simp (le-leb 1 (length w) h, le-leb (length w) 10 k, e, or-true)
+  number-other e = rw e
 
   -- what the number says of the word
   numeral-none : number false w ≡ none → isNumeral w ≡ false
@@ -104,3 +96,22 @@ number-minus w e = simp (minus-no-digit w e, e, and-false)
 pub number-plain : (w : List ℕ) → startsWith minus w ≡ false → number true w ≡ number false w
 unfolding number
 number-plain w e = simp e
+
+-- ---- a first line that is a number
+-- what is told of it
+pub record TellsLine (s : List ℕ) (z : ℤ) (next : ℕ) : Type 0 where
+  pub ends : has lineEnd s ≡ true
+  pub is-number : number false (before lineEnd s) ≡ some z
+  pub next-line : next ≡ length (before lineEnd s) + 1
+
+pub tells-line : (s : List ℕ) (z : ℤ) (next : ℕ) → numberLine s ≡ some (z, next) → TellsLine s z next
+unfolding numberLine
+tells-line s z next e = by (has lineEnd s) refl (number false (before lineEnd s)) refl e
+  where
+    by : (p : Bool) → has lineEnd s ≡ p → (n : Option ℤ) → number false (before lineEnd s) ≡ n
+        → cond p (withPlace n (length (before lineEnd s) + 1)) none ≡ some (z, next) → TellsLine s z next
+    by false t n m h = absurd (Option·none-ne-some (z, next) h)
+    by true t none m h = absurd (Option·none-ne-some (z, next) h)
+    by true t (some y) m h =
+        let both = Option·some-injective _ _ h in
+        record { ends = t; is-number = m ∙ ap (λ (q : ℤ × ℕ). some (q .0)) both; next-line = sym (ap (λ (q : ℤ × ℕ). q .1) both) }

@@ -2,4 +2,5 @@
 pub mod Bytes
 pub mod Lines
 pub mod Numbers
+pub mod Leading
 pub mod Output

@@ -1,6 +1,7 @@
 -- Numbers in decimal: "A number is 1 to 10 digits, no leading zero except `0` itself; a minus sign is allowed before a nonzero TERM number
 -- only."
 use mathlib.Core.Path.{_≡_}
+use mathlib.Core.Logic.{_↔_}
 use mathlib.Core.Bool.{Bool, true, false, _&&_, _||_, not, cond}
 use mathlib.Core.List.{List, [], _∷_, _++_}
 use mathlib.Core.Option.{Option, none, some}
@@ -11,6 +12,10 @@ use lib.ListN.{length, drop}
 use Rattle.algebra.specs.Table.{every}
 use Rattle.text.specs.declared.Number.{Number}
 use Rattle.text.specs.declared.Number.the-variants.{Value, NotANumber}
+use Rattle.text.specs.declared.NumberLine.{NumberLine}
+use Rattle.text.specs.declared.NumberLine.the-variants as L
+use Rattle.text.specs.Bytes.{lineEnd}
+use Rattle.text.specs.Lines.{before, has}
 
 -- ---- reading
 -- the bytes `0` to `9`, and `-`
@@ -40,10 +45,6 @@ valueFrom n (b ∷ w) = valueFrom (n * 10 + (b - zeroDigit)) w
 abbrev pub value : List ℕ → ℕ
 value w = valueFrom 0 w
 
--- what bytes are as digits after a number n that goes before them
-abbrev pub digitsAfter : ℕ → List ℕ → Option ℤ
-digitsAfter n w = cond (every isDigit w) (some (pos (valueFrom n w))) none
-
 -- "a minus sign .. before a nonzero .. number": the number that digits are after one
 abbrev pub negativeOf : List ℕ → Option ℤ
 negativeOf w = cond (isNumeral w && not (eqb (value w) 0)) (some (negℤ (pos (value w)))) none
@@ -56,6 +57,21 @@ number signs w = cond (isNumeral w) (some (pos (value w))) (cond (signs && start
 abbrev pub found : Number → Option ℤ
 found (Value x) = some x
 found NotANumber = none
+
+-- ---- a line that is a number
+-- a number, where there is one, and the place that goes with it
+abbrev pub withPlace : Option ℤ → ℕ → Option (ℤ × ℕ)
+withPlace (some z) place = some (z, place)
+withPlace none place = none
+
+-- the number without a sign that the first line of s is, and where the next line begins: none where it is no number or has no line end
+unfoldable pub numberLine : List ℕ → Option (ℤ × ℕ)
+numberLine s = cond (has lineEnd s) (withPlace (number false (before lineEnd s)) (length (before lineEnd s) + 1)) none
+
+-- what the code finds, as the definition says it
+abbrev pub lineFound : NumberLine → Option (ℤ × ℕ)
+lineFound (L.Value n next) = some (pos n, next)
+lineFound L.NotANumber = none
 
 -- ---- writing
 abbrev pub digit : ℕ → List ℕ
@@ -84,11 +100,19 @@ signFits signs (pos n) = true
 signFits signs (negsuc n) = signs
 
 -- ---- what is proved of them
+-- w is the decimal text of a number z that may stand there
+abbrev pub IsDecimal : Bool → List ℕ → ℤ → Type 0
+IsDecimal signs w z = (w ≡ decimal z) × AtMostTenDigits z × (signFits signs z ≡ true)
+
 -- a word that is a number is that number's decimal text
 abbrev pub NumberIsDecimal : Type 0
-NumberIsDecimal = (signs : Bool) (w : List ℕ) (z : ℤ) → number signs w ≡ some z
-    → (w ≡ decimal z) × AtMostTenDigits z × (signFits signs z ≡ true)
+NumberIsDecimal = (signs : Bool) (w : List ℕ) (z : ℤ) → number signs w ≡ some z → IsDecimal signs w z
 
 -- and the decimal text of a number is that number
 abbrev pub DecimalIsNumber : Type 0
 DecimalIsNumber = (signs : Bool) (z : ℤ) → AtMostTenDigits z → signFits signs z ≡ true → number signs (decimal z) ≡ some z
+
+-- so every word, the empty one too, is a number just where it is that number's text, and none just where it is no number's
+abbrev pub NumberExactly : Type 0
+NumberExactly = (signs : Bool) (w : List ℕ)
+    → ((z : ℤ) → (number signs w ≡ some z) ↔ IsDecimal signs w z) × ((number signs w ≡ none) ↔ ((z : ℤ) → IsDecimal signs w z → ⊥))

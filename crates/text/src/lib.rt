@@ -9,3 +9,9 @@ pub enum Number {
     Value(i64),
     NotANumber,
 }
+
+// What the first line of a text is as a number without a sign: the number and where the next line begins.
+pub enum NumberLine {
+    Value(u64, usize),
+    NotANumber,
+}

@@ -1,0 +1,233 @@
+"""The sheets of tests/reader: good ones, nearly all of 500 weights, and faulty ones, the fault mostly on a weight line. They come from SEED
+and are the same under every version of Python: chances are drawn from `r`, a random.Random, by its method random() alone, whose numbers
+Python promises to keep."""
+import random
+import re
+from typing import NamedTuple
+
+from random_sheets import GREATEST_NUMBER, Parts
+from sheet import MOST_BYTES
+
+SEED = 1
+WEIGHTS = 500
+ROWS = (0, 499, 500, 501)
+
+# Every fault of a weight line stands at the first weight, at a middle one and at the last.
+FAULTY_WEIGHTS = (1, 250, 500)
+
+
+class Case(NamedTuple):
+    """A sheet, by a name that says what it is, and the number of places of the row that it is read for."""
+    name: str
+    sheet: bytes
+    places: int
+
+
+# ---- good sheets
+
+def below(r, limit):
+    """A number from 0 up, less than the limit."""
+    return int(r.random() * limit)
+
+
+def of_length(r, length):
+    """A number of so many digits."""
+    least = 0 if length == 1 else 10 ** (length - 1)
+    return least + below(r, 10 ** length - least)
+
+
+def number(r):
+    return of_length(r, 1 + below(r, 10))
+
+
+def numbers(r, count):
+    return [number(r) for _ in range(count)]
+
+
+def good(r, order, weights):
+    """All numbers before the weights have any length too: what the curve would refuse is the reader's to take."""
+    signs = [1 - 2 * below(r, 2) for _ in range(2 * order)]
+    terms = [sign * size for sign, size in zip(signs, numbers(r, 2 * order))]
+    divisor, low, high, last = numbers(r, 4)
+    return Parts(divisor, list(zip(terms[::2], terms[1::2])), (low, high), last, weights).text()
+
+
+def all_good(r):
+    """Name, sheet and m."""
+    edges = [0, GREATEST_NUMBER, *(10 ** i - j for i in range(1, 10) for j in (0, 1)), *(2 ** 32 + i for i in (-1, 0, 1)), 2 ** 31]
+    tables = {
+        **{f"weights of length {length}": [of_length(r, length) for _ in range(WEIGHTS)] for length in range(1, 11)},
+        "weights 0": [0] * WEIGHTS,
+        f"weights {GREATEST_NUMBER}": [GREATEST_NUMBER] * WEIGHTS,
+        f"weights 0 and {GREATEST_NUMBER} by turns": [0, GREATEST_NUMBER] * (WEIGHTS // 2),
+        "weights next to powers of 10 and 2": (edges * WEIGHTS)[:WEIGHTS],
+        **{f"m is {count}, weights of any length": numbers(r, count) for count in (1, 2, 499)},
+    }
+    for i, (name, weights) in enumerate(tables.items()):
+        yield f"good: {name}", good(r, 1 + i % 4, weights), len(weights)
+    for order in range(1, 5):
+        for letter in "abc":
+            yield f"good: order {order}, weights of any length, {letter}", good(r, order, numbers(r, WEIGHTS)), WEIGHTS
+
+
+# ---- faults of a weight line
+
+# Words that are no number.
+NO_NUMBERS = {
+    "empty word": b"", "leading zero": b"0105", "two zeros": b"00", "ten zeros": b"0" * 10, "11 digits": b"10000000000",
+    "11 nines": b"9" * 11, "11 digits, zeros first": b"00000000105", "20 digits, 2^64": b"%d" % 2 ** 64,
+    "20 digits, 2^64 + 105": b"%d" % (2 ** 64 + 105), "300 digits": b"1" * 300, "plus sign": b"+105", "minus sign": b"-105",
+    "minus zero": b"-0", "minus sign alone": b"-", "minus sign at the end": b"105-", "letter alone": b"n",
+    "9 digits and a letter": b"999999999n", "10 digits and a letter": b"9999999999n", "decimal point": b"10.5", "exponent": b"1e5",
+    "hexadecimal": b"0x69", "underscore": b"1_05", "carriage return before the line end": b"105\r", "keyword for the number": b"W",
+    "full-width digit": "\uff15".encode(),
+}
+
+# Bytes that are no digits, each put at the front, in the middle and at the end of a number. 15 and B5 are a 5 with one bit changed.
+NO_DIGITS = {
+    "letter": b"n", "byte 2F": b"/", "byte 3A": b":", "byte 00": b"\x00", "tab": b"\t", "byte 15": b"\x15",
+    "byte 80": b"\x80", "byte B5": b"\xb5", "byte FF": b"\xff",
+}
+
+# Lines with another keyword or another number of words. Some have a word that is no number too.
+NO_FORMS = {
+    "empty line": b"", "space alone": b" ", "keyword alone": b"W", "keyword missing": b"105", "keyword empty": b" 105",
+    "keyword in lower case": b"w 105", "keyword V": b"V 105", "keyword X": b"X 105", "keyword D7": b"\xd7 105", "keyword LAST": b"LAST 105",
+    "keyword too long": b"WW 105", "keyword with a zero byte": b"W\x00 105", "keyword in lower case, and a letter": b"w 10n5",
+    "space missing": b"W105", "tab for the space": b"W\t105", "zero byte for the space": b"W\x00105", "space before": b" W 105",
+    "two spaces": b"W  105", "two spaces alone": b"W  ", "space behind": b"W 105 ", "letter, and a space behind": b"W 10n5 ",
+    "two numbers": b"W 10 5", "leading zero, and a second number": b"W 010 5", "11 digits, and a second number": b"W 10000000000 5",
+    "minus sign, and a second number": b"W -10 5", "number, and a letter": b"W 10 n", "two weights": b"W 10 W 5",
+}
+
+# Other bytes for the line end. With the last weight they leave a line that has none, or bytes behind it.
+NO_ENDS = {"line end left out": b"", "carriage return for the line end": b"\r", "space for the line end": b" ",
+           "zero byte for the line end": b"\x00", "line end twice": b"\n\n"}
+
+# The last bytes of a sheet that ends on a weight line.
+CUTS = {
+    "line missing": b"", "behind the keyword": b"W", "behind the space": b"W ", "in the number": b"W 10", "behind a leading zero": b"W 01",
+    "behind 11 digits": b"W 10000000000", "behind a letter": b"W 10n", "behind a second space": b"W 10 ", "behind two numbers": b"W 10 5",
+    "behind a keyword in lower case": b"w 105", "behind a carriage return": b"W 105\r",
+}
+
+
+class LineFault(NamedTuple):
+    """A weight line with its line end, or what stands for it; and whether the sheet ends there."""
+    line: bytes
+    is_cut: bool
+
+
+def line_faults():
+    words = dict(NO_NUMBERS)
+    for name, byte in NO_DIGITS.items():
+        words.update({f"{name} at the front": byte + b"105", f"{name} in the middle": b"10" + byte + b"5",
+                      f"{name} at the end": b"105" + byte})
+    return {
+        **{name: LineFault(b"W " + word + b"\n", False) for name, word in words.items()},
+        **{name: LineFault(line + b"\n", False) for name, line in NO_FORMS.items()},
+        **{name: LineFault(b"W 105" + end, False) for name, end in NO_ENDS.items()},
+        **{f"sheet cut, {name}": LineFault(rest, True) for name, rest in CUTS.items()},
+    }
+
+
+def with_fault(sheet, weight, fault):
+    """The sheet with this fault at a weight, from 1. Before it there are as many lines as in a good sheet."""
+    lines = sheet.split(b"\n")
+    at = lines.index(b"SEVERITY %d" % WEIGHTS) + weight
+    before = b"".join(line + b"\n" for line in lines[:at])
+    return before + fault.line + (b"" if fault.is_cut else b"\n".join(lines[at + 1:]))
+
+
+def one_fault(sheets):
+    for i, (name, fault) in enumerate(line_faults().items()):
+        for weight in FAULTY_WEIGHTS:
+            yield f"weight {weight}: {name}", with_fault(sheets[i % len(sheets)], weight, fault)
+
+
+# The first of two faults decides.
+TWO_FAULTS = (
+    ("leading zero", "keyword in lower case"), ("keyword in lower case", "leading zero"), ("empty word", "two numbers"),
+    ("two numbers", "empty word"), ("11 digits", "letter in the middle"), ("space behind", "sheet cut, in the number"),
+    ("minus sign", "sheet cut, line missing"), ("carriage return before the line end", "line end twice"),
+)
+
+
+def two_faults(sheets):
+    faults = line_faults()
+    for i, names in enumerate(TWO_FAULTS):
+        for weights in (1, 500), (250, 251), (499, 500):
+            sheet = sheets[i % len(sheets)]
+            for weight, name in zip(weights, names):
+                sheet = with_fault(sheet, weight, faults[name])
+            yield "weights {} and {}: {}; {}".format(*weights, *names), sheet
+
+
+# ---- other faults
+
+def head_faults(sheet):
+    """The lines before the weights; of the TERM lines the first."""
+    for keyword in b"LAW", b"TERM", b"START", b"LAST", b"SEVERITY":
+        line = re.search(rb"(?m)^%s .*$" % keyword, sheet)
+        before, after = sheet[:line.start()], sheet[line.end():]
+        name = keyword.decode()
+        yield f"{name} line: keyword in lower case", before + line[0].lower() + after
+        yield f"{name} line: a number too many", before + line[0] + b" 5" + after
+        yield f"{name} line: letter at the end", before + line[0] + b"n" + after
+        yield f"{name} line: sheet cut before the line end", before + line[0]
+
+
+def other_number(sheet, keyword, told):
+    """The sheet with another first number on the line of this keyword."""
+    return re.sub(rb"(?m)^%s [0-9]+" % keyword, b"%s %d" % (keyword, told), sheet)
+
+
+def limits(sheet):
+    for order in 0, 5, 2 ** 32 + 1, GREATEST_NUMBER:
+        yield f"k is {order}", other_number(sheet, b"LAW", order)
+    for count in 0, 501, 2 ** 32 + 500, GREATEST_NUMBER:
+        yield f"m is {count}", other_number(sheet, b"SEVERITY", count)
+    yield "m is 501, and so many weights", other_number(sheet, b"SEVERITY", 501) + b"W 105\n"
+    yield "k is 5, and weight 1 has a leading zero", other_number(with_fault(sheet, 1, line_faults()["leading zero"]), b"LAW", 5)
+
+
+def filled(sheet, at, byte, size):
+    """So many of a byte put in at a place that the sheet has this size."""
+    return sheet[:at] + byte * (size - len(sheet)) + sheet[at:]
+
+
+def bytes_behind(sheet):
+    behind = {"a line end": b"\n", "a carriage return": b"\r", "a space": b" ", "a zero byte": b"\x00", "a digit": b"5", "byte 80": b"\x80",
+              "a keyword": b"W", "a weight without a line end": b"W 105", "a weight": b"W 105\n", "a weight in lower case": b"w 105\n",
+              "the sheet again": sheet}
+    for name, more in behind.items():
+        yield f"behind the last line: {name}", sheet + more
+    yield f"behind the last line: digits, {MOST_BYTES} bytes in all", filled(sheet, len(sheet), b"5", MOST_BYTES)
+    for count in 1, 499:
+        yield f"m is {count}, with {WEIGHTS} weights", other_number(sheet, b"SEVERITY", count)
+
+
+def sizes(sheet):
+    yield "no bytes", b""
+    yield f"behind the last line: digits, {MOST_BYTES + 1} bytes in all", filled(sheet, len(sheet), b"5", MOST_BYTES + 1)
+    yield f"{MOST_BYTES + 1} line ends", b"\n" * (MOST_BYTES + 1)
+    for size in MOST_BYTES, MOST_BYTES + 1:
+        yield f"weight {WEIGHTS}: so many digits that the sheet has {size} bytes", filled(sheet, len(sheet) - 1, b"5", size)
+
+
+def faulty(sheets):
+    """From good sheets of the orders 1 to 4."""
+    yield from one_fault(sheets)
+    yield from two_faults(sheets)
+    for faults, sheet in zip((head_faults, limits, bytes_behind, sizes), sheets):
+        yield from faults(sheet)
+
+
+def cases():
+    r = random.Random(SEED)
+    for name, sheet, count in all_good(r):
+        for places in sorted({*ROWS, count - 1, count}):
+            yield Case(name, sheet, places)
+    for name, sheet in faulty([good(r, order, numbers(r, WEIGHTS)) for order in range(1, 5)]):
+        for places in ROWS:
+            yield Case(name, sheet, places)
