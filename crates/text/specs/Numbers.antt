@@ -100,17 +100,18 @@ signFits signs (pos n) = true
 signFits signs (negsuc n) = signs
 
 -- ---- what is proved of them
--- w is the decimal text of a number z that may stand there
-abbrev pub IsDecimal : Bool → List ℕ → ℤ → Type 0
-IsDecimal signs w z = (w ≡ decimal z) × AtMostTenDigits z × (signFits signs z ≡ true)
-
 -- a word that is a number is that number's decimal text
 abbrev pub NumberIsDecimal : Type 0
-NumberIsDecimal = (signs : Bool) (w : List ℕ) (z : ℤ) → number signs w ≡ some z → IsDecimal signs w z
+NumberIsDecimal = (signs : Bool) (w : List ℕ) (z : ℤ) → number signs w ≡ some z
+    → (w ≡ decimal z) × AtMostTenDigits z × (signFits signs z ≡ true)
 
 -- and the decimal text of a number is that number
 abbrev pub DecimalIsNumber : Type 0
 DecimalIsNumber = (signs : Bool) (z : ℤ) → AtMostTenDigits z → signFits signs z ≡ true → number signs (decimal z) ≡ some z
+
+-- w is the decimal text of z, and z may stand there
+abbrev pub IsDecimal : Bool → List ℕ → ℤ → Type 0
+IsDecimal signs w z = (w ≡ decimal z) × AtMostTenDigits z × (signFits signs z ≡ true)
 
 -- so every word, the empty one too, is a number just where it is that number's text, and none just where it is no number's
 abbrev pub NumberExactly : Type 0
