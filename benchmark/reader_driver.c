@@ -1,6 +1,6 @@
-// Runs the proved sheet reader and the plain one on a good sheet, of order 1 with 500 weights from 0 to 1,000: `reader WHICH TIMES`, with
-// WHICH as in timing.h. `time` first compares what they answer and every place that they leave, on good sheets of order 1 to 4 and on
-// damaged ones.
+// Runs the proved sheet reader, the plain one and the tuned one on a good sheet, of order 1 with 500 weights from 0 to 1,000: `reader WHICH
+// TIMES`, with WHICH as in timing.h. `time` first compares what they answer and every place that they leave, on good sheets of order 1 to 4
+// and on damaged ones.
 #include <stdio.h>
 #include <stdlib.h>
 #include <string.h>
@@ -8,8 +8,11 @@
 #include "claimtotals.h"
 #include "plain.h"
 #include "timing.h"
+#include "tuned.h"
 
 enum { WEIGHTS = CLAIMTOTALS_WEIGHTS, PLACES = WEIGHTS + 1, TOO_LONG = 16385, BATCH = 10 };
+
+enum { PROVED, PLAIN, TUNED, VERSIONS };
 
 // what a call answers and leaves in its row
 typedef struct {
@@ -25,19 +28,20 @@ static const char *sheet;
 static size_t length, places = PLACES;
 
 static char good[TOO_LONG], damaged[TOO_LONG];
-static Reading proved, plain;
+static Reading readings[VERSIONS];
 
-static void call_proved(void) {
-    Reading *r = &proved;
-    r->number = claimtotals_read_sheet((const uint8_t *)sheet, length, r->row, places, &r->line, &r->order, &r->divisor, r->a, r->b,
-                                       &r->start_low, &r->start_high, &r->last, &r->count);
+static inline void ask(__typeof__(claimtotals_read_sheet) *read, Reading *r) {
+    r->number = read((const uint8_t *)sheet, length, r->row, places, &r->line, &r->order, &r->divisor, r->a, r->b, &r->start_low,
+                     &r->start_high, &r->last, &r->count);
 }
 
-static void call_plain(void) {
-    Reading *r = &plain;
-    r->number = plain_read_sheet((const uint8_t *)sheet, length, r->row, places, &r->line, &r->order, &r->divisor, r->a, r->b,
-                                 &r->start_low, &r->start_high, &r->last, &r->count);
-}
+static void call_proved(void) { ask(claimtotals_read_sheet, &readings[PROVED]); }
+
+static void call_plain(void) { ask(plain_read_sheet, &readings[PLAIN]); }
+
+static void call_tuned(void) { ask(tuned_read_sheet, &readings[TUNED]); }
+
+static const Version versions[VERSIONS] = {{"proved", call_proved}, {"plain", call_plain}, {"tuned", call_tuned}};
 
 static void make_good(int order) {
     char *p = good + sprintf(good, "LAW %d 1000\n", order);
@@ -55,14 +59,15 @@ static void make_good(int order) {
 }
 
 static void compare(void) {
-    memset(&proved, 0x55, sizeof proved);
-    memset(&plain, 0x55, sizeof plain);
-    call_proved();
-    call_plain();
-    if (memcmp(&proved, &plain, sizeof proved) == 0) return;
-    fprintf(stderr, "reader: the answers or the rows differ: proved %lu at line %zu, plain C %lu at line %zu\n",
-            (unsigned long)proved.number, proved.line, (unsigned long)plain.number, plain.line);
-    exit(1);
+    memset(readings, 0x55, sizeof readings);
+    for (size_t v = 0; v < VERSIONS; v++) versions[v].call();
+    for (size_t v = 1; v < VERSIONS; v++) {
+        const Reading *proved = &readings[PROVED], *other = &readings[v];
+        if (memcmp(proved, other, sizeof *proved) == 0) continue;
+        fprintf(stderr, "reader: the answers or the rows differ: proved %lu at line %zu, %s %lu at line %zu\n",
+                (unsigned long)proved->number, proved->line, versions[v].name, (unsigned long)other->number, other->line);
+        exit(1);
+    }
 }
 
 // the good sheet of n bytes cut off at `at`, and with other bytes put in there, or put in the place of the byte there
@@ -88,7 +93,7 @@ static void compare_all(void) {
     for (int order = 1; order <= 4; order++) {
         make_good(order);
         compare();
-        if (proved.number != 0) {
+        if (readings[PROVED].number != 0) {
             fputs("reader: the good sheet is refused\n", stderr);
             exit(1);
         }
@@ -101,11 +106,9 @@ static void compare_all(void) {
     places = PLACES;
 }
 
-static const Version versions[] = {{"proved", call_proved}, {"plain", call_plain}};
-
 int main(int argc, char **argv) {
     if (argc != 3) return 2;
     if (strcmp(argv[1], "time") == 0) compare_all();
     make_good(1);
-    return run_calls(argv[1], atol(argv[2]), BATCH, versions, sizeof versions / sizeof *versions);
+    return run_calls(argv[1], atol(argv[2]), BATCH, versions, VERSIONS);
 }

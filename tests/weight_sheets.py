@@ -106,9 +106,9 @@ NO_ENDS = {"line end left out": b"", "carriage return for the line end": b"\r", 
 
 # The last bytes of a sheet that ends on a weight line.
 CUTS = {
-    "line missing": b"", "behind the keyword": b"W", "behind the space": b"W ", "in the number": b"W 10", "behind a leading zero": b"W 01",
-    "behind 11 digits": b"W 10000000000", "behind a letter": b"W 10n", "behind a second space": b"W 10 ", "behind two numbers": b"W 10 5",
-    "behind a keyword in lower case": b"w 105", "behind a carriage return": b"W 105\r",
+    "line missing": b"", "behind the keyword": b"W", "behind the space": b"W ", "behind a digit": b"W 5", "in the number": b"W 10",
+    "behind a leading zero": b"W 01", "behind 11 digits": b"W 10000000000", "behind a letter": b"W 10n", "behind a second space": b"W 10 ",
+    "behind two numbers": b"W 10 5", "behind a keyword in lower case": b"w 105", "behind a carriage return": b"W 105\r",
 }
 
 

@@ -86,13 +86,13 @@ pub fn read_one(rest: &[u8], keyword: &[u8]) -> LineRead
     }
 }
 
-// A line `W n`, of which a sheet may have 500. A good one, of 4 bytes or more, is read in one pass; any other is read as every line is, which
-// finds its refusal.
+// A line `W n`, of which a sheet may have 500. A good one, the shortest has 4 bytes, is read in one pass. Any other is read as every line
+// is, which finds its refusal.
 pub fn read_weight(rest: &[u8]) -> LineRead
     ensures { λ r. ⌜ lineOf 1 (now (rest .entry)) r ≡ line false W 1 (now (rest .entry)) ⌝ }
     ensures { λ r. ⌜ nextOf r ≤ length (now (rest .entry)) ⌝ }
 {
-    if 3 < rest.len() && rest[0] == b'W' && rest[1] == b' ' {
+    if 3 < rest.len() && same(&rest[..2], b"W ") {
         if let NumberLine::Value(w, next) = number_line(&rest[2..]) {
             return LineRead::Numbers(w as i64, 0, 2 + next);
         }

@@ -16,9 +16,9 @@ use Rattle.algebra.specs.Table.{every}
 use Rattle.algebra.proofs.Slice.{drop-next}
 use Rattle.text.specs.Bytes.{lineEnd}
 use Rattle.text.specs.Lines.{before, after, has}
-use Rattle.text.specs.Numbers.{zeroDigit, isDigit, isNumeral, valueFrom, value, number, withPlace, numberLine}
+use Rattle.text.specs.Numbers.{zeroDigit, isDigit, isNumeral, valueFrom, value, number}
 use Rattle.text.specs.declared.numbers.Digits.{Digits}
-use Rattle.text.specs.Leading.{leadingDigits, digitsOf}
+use Rattle.text.specs.Leading.{leadingDigits, digitsOf, withPlace, numberLine}
 use Rattle.text.proofs.Scan.{has-before}
 use Rattle.text.proofs.Words.{split-at-first, first-after}
 use Rattle.text.proofs.Decimal.{digits-below}
@@ -31,10 +31,10 @@ passedAndLeft n s i v = let left = leadingDigits (n - i) (drop i s) in record { 
 
 module _ (n : ℕ) (s : List ℕ) (i v : ℕ) where
   -- there is one more
-  pub digits-next : i < n → i < length s → isDigit (getD s i 0) ≡ true
+  pub passed-next : i < n → i < length s → isDigit (getD s i 0) ≡ true
       → passedAndLeft n s i v ≡ passedAndLeft n s (i + 1) (v * 10 + (getD s i 0 - zeroDigit))
   unfolding leadingDigits valueFrom
-  digits-next h k e = rw (one-fewer, drop-next s i 0 k, e) (λ j. record { count = one-passed j; value = valueFrom next others })
+  passed-next h k e = rw (one-fewer, drop-next s i 0 k, e) (λ j. record { count = one-passed j; value = valueFrom next others })
     where
       one-fewer : n - i ≡ suc (n - (i + 1))
       one-fewer = omega arith
@@ -49,9 +49,9 @@ module _ (n : ℕ) (s : List ℕ) (i v : ℕ) where
       one-passed = omega arith
 
   -- there is none: n are there, the text ends, or the byte is no digit
-  pub digits-stop : (i < n → i < length s → isDigit (getD s i 0) ≡ false) → passedAndLeft n s i v ≡ record { count = i; value = v }
+  pub none-left : (i < n → i < length s → isDigit (getD s i 0) ≡ false) → passedAndLeft n s i v ≡ record { count = i; value = v }
   unfolding leadingDigits valueFrom
-  digits-stop stop = rw (by (n - i) refl (ltb i (length s)) refl, add-zero)
+  none-left stop = rw (by (n - i) refl (ltb i (length s)) refl, add-zero)
     where
       by : (k : ℕ) → n - i ≡ k → (t : Bool) → ltb i (length s) ≡ t → leadingDigits k (drop i s) ≡ []
       by zero e t f = refl
@@ -97,12 +97,12 @@ leading-before (suc n) (b ∷ s) = by (eqb b lineEnd) refl (leading-before n s)
     by true e ih = rw (eqb-true b lineEnd e)
     by false e ih = rw ih
 
-digits-plain : (w : List ℕ) → every isDigit w ≡ true → has lineEnd w ≡ false
+no-line-end : (w : List ℕ) → every isDigit w ≡ true → has lineEnd w ≡ false
 unfolding has
-digits-plain [] e = refl
-digits-plain (b ∷ w) e =
+no-line-end [] e = refl
+no-line-end (b ∷ w) e =
     let t = and-eq-true-iff (isDigit b) (every isDigit w) .0 e in
-    rw (ne-eqb b lineEnd (λ q. true≢false (sym (t .0) ∙ ap isDigit q))) (digits-plain w (t .1))
+    rw (ne-eqb b lineEnd (λ q. true≢false (sym (t .0) ∙ ap isDigit q))) (no-line-end w (t .1))
 
 -- ---- numbers by them
 -- a number's are all of it
@@ -123,8 +123,8 @@ module _ (s : List ℕ) (found : Digits) (e : found ≡ digitsOf (leadingDigits 
   pub front-digits : (length (take (found .count) s) ≤ 10) × (every isDigit (take (found .count) s) ≡ true)
   front-digits = rw front (leads 10 s .few, leads 10 s .are)
 
-  pub word-small : found .value < 10 ^ 10
-  word-small = omega (arith, stand, digits-below (leadingDigits 10 s) (leads 10 s .are) (leads 10 s .few))
+  pub found-small : found .value < 10 ^ 10
+  found-small = omega (arith, stand, digits-below (leadingDigits 10 s) (leads 10 s .are) (leads 10 s .few))
 
   -- s is a number where they are all of it
   whole-word : found .count ≡ length s → leadingDigits 10 s ≡ s
@@ -149,7 +149,7 @@ module _ (s : List ℕ) (found : Digits) (e : found ≡ digitsOf (leadingDigits 
   line-front h end =
       let rest = drop (suc (found .count)) s in
       let text = split-at s (found .count) 0 h ∙ ap (λ (b : ℕ). take (found .count) s ++ (b ∷ rest)) end in
-      let first = first-after lineEnd (take (found .count) s) rest (digits-plain (take (found .count) s) (front-digits .1)) in
+      let first = first-after lineEnd (take (found .count) s) rest (no-line-end (take (found .count) s) (front-digits .1)) in
       (ap (has lineEnd) text ∙ first .0, ap (before lineEnd) text ∙ first .1)
 
   pub line-number : found .count < length s → getD s (found .count) 0 ≡ lineEnd → isNumeral (take (found .count) s) ≡ true

@@ -1,4 +1,4 @@
--- Words as numbers: one digit more by `drop-next`, and the rule of a number at each of the tests that the code makes.
+-- Words as numbers: the rule of a number at each of the tests that the code makes, with and without a sign, and of a text's first line.
 use mathlib.Core.Path.{_≡_, refl, sym, ap, _∙_}
 use mathlib.Core.Bool.{Bool, true, false, _&&_, _||_, not, cond, and-false, and-eq-true-iff, true≢false}
 use mathlib.Core.List.{List, [], _∷_}
@@ -13,8 +13,8 @@ use lib.ListN.{length, drop, getD}
 use Rattle.algebra.specs.Table.{every}
 use Rattle.text.specs.Bytes.{lineEnd}
 use Rattle.text.specs.Lines.{before, has}
-use Rattle.text.specs.Numbers.{withPlace, numberLine}
 use Rattle.text.specs.Numbers.{zeroDigit, isDigit, minus, startsWith, isNumeral, value, negativeOf, number}
+use Rattle.text.specs.Leading.{withPlace, numberLine}
 
 -- ---- the first byte
 pub starts-empty : (b : ℕ) (w : List ℕ) → length w ≤ 0 → startsWith b w ≡ false

@@ -12,10 +12,6 @@ use lib.ListN.{length, drop}
 use Rattle.algebra.specs.Table.{every}
 use Rattle.text.specs.declared.Number.{Number}
 use Rattle.text.specs.declared.Number.the-variants.{Value, NotANumber}
-use Rattle.text.specs.declared.NumberLine.{NumberLine}
-use Rattle.text.specs.declared.NumberLine.the-variants as L
-use Rattle.text.specs.Bytes.{lineEnd}
-use Rattle.text.specs.Lines.{before, has}
 
 -- ---- reading
 -- the bytes `0` to `9`, and `-`
@@ -58,21 +54,6 @@ abbrev pub found : Number → Option ℤ
 found (Value x) = some x
 found NotANumber = none
 
--- ---- a line that is a number
--- a number, where there is one, and the place that goes with it
-abbrev pub withPlace : Option ℤ → ℕ → Option (ℤ × ℕ)
-withPlace (some z) place = some (z, place)
-withPlace none place = none
-
--- the number without a sign that the first line of s is, and where the next line begins: none where it is no number or has no line end
-unfoldable pub numberLine : List ℕ → Option (ℤ × ℕ)
-numberLine s = cond (has lineEnd s) (withPlace (number false (before lineEnd s)) (length (before lineEnd s) + 1)) none
-
--- what the code finds, as the definition says it
-abbrev pub lineFound : NumberLine → Option (ℤ × ℕ)
-lineFound (L.Value n next) = some (pos n, next)
-lineFound L.NotANumber = none
-
 -- ---- writing
 abbrev pub digit : ℕ → List ℕ
 digit d = (zeroDigit + d) ∷ []
@@ -113,7 +94,7 @@ DecimalIsNumber = (signs : Bool) (z : ℤ) → AtMostTenDigits z → signFits si
 abbrev pub IsDecimal : Bool → List ℕ → ℤ → Type 0
 IsDecimal signs w z = (w ≡ decimal z) × AtMostTenDigits z × (signFits signs z ≡ true)
 
--- so every word, the empty one too, is a number just where it is that number's text, and none just where it is no number's
+-- so of every word, the empty one too, it is said just which number it is the text of, and none just where it is no such text
 abbrev pub NumberExactly : Type 0
 NumberExactly = (signs : Bool) (w : List ℕ)
     → ((z : ℤ) → (number signs w ≡ some z) ↔ IsDecimal signs w z) × ((number signs w ≡ none) ↔ ((z : ℤ) → IsDecimal signs w z → ⊥))

@@ -10,7 +10,8 @@ pub enum Number {
     NotANumber,
 }
 
-// What the first line of a text is as a number without a sign: the number and where the next line begins.
+// What the first line of a text is as a number without a sign: the number, and where the next line begins. A line that has no line end is
+// none.
 pub enum NumberLine {
     Value(u64, usize),
     NotANumber,

@@ -1,4 +1,4 @@
-// The numbers that words are, read from the words' own bytes.
+// The numbers that words are, and that lines are, read from their own bytes.
 
 use super::Number;
 use super::NumberLine;
@@ -8,8 +8,7 @@ ghost use Prim.Native.Nat.{_≤_};
 ghost use lib.ListN.{length};
 ghost use Rattle.algebra.specs.Table.{every};
 ghost use Rattle.text.specs.Numbers.{isDigit, startsWith, isNumeral, negativeOf, number as wordNumber, found};
-ghost use Rattle.text.specs.Numbers.{numberLine, lineFound};
-ghost use Rattle.text.specs.Leading.{leadingDigits, digitsOf};
+ghost use Rattle.text.specs.Leading.{leadingDigits, digitsOf, numberLine, lineFound};
 
 // So many digits, and what they stand for.
 pub struct Digits {

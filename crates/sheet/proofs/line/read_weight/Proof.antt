@@ -4,12 +4,11 @@ use mathlib.Core.Path.{sym, ap, _∙_}
 use mathlib.Core.List.{List, [], _∷_}
 use Prim.Native.Nat.{ℕ, _+_, _^_, _<_}
 use native.Mathlib.Omega.{arith}
-use borrow.Author.Tests.{eqb-true}
 use mir.Syntax.{w64}
 use mir.Facts.{toZ-pos}
 use lib.IntN.{ℤ}
-use lib.ListN.{drop, getD}
-use Rattle.text.specs.Bytes.{space}
+use lib.ListN.{drop}
+use lib.Seq.{length-take-le}
 use Rattle.sheet.specs.Line.{numbers}
 use Rattle.sheet.proofs.Weight.{GoodWeight, good-weight}
 use Rattle.sheet.proofs.line.read_weight.Statement.{statement}
@@ -19,16 +18,17 @@ module _ (c : tie.After-w) where
   abbrev read : tie.After-number-line
   read = c .before .before
 
-  abbrev at : tie.Then3
-  at = read .before .before
+  -- where the keyword was compared
+  abbrev compared : tie.After-same
+  compared = read .before .before .before
 
   abbrev rest : List ℕ
-  rest = at .before .before .before .before .before .before .args .rest .now
+  rest = compared .before .before .before .before .before .args .rest .now
 
   good : GoodWeight rest (c .w .given .0 .0) (2 + c .w .given .0 .1 .0)
   good =
-      good-weight rest (omega arith) (eqb-true (getD rest 0 0) 0x57 (at .before .before .if2 .taken))
-      (eqb-true (getD rest 1 0) space (at .if3 .taken)) (read .number-line .ensures) (c .w .given .1)
+      let begins = sym (compared .same .ensures) ∙ read .before .before .if2 .taken in
+      good-weight rest begins (read .number-line .ensures) (c .w .given .1)
 
   fits : c .w .given .0 .0 < 2 ^ 63
   fits = omega (arith, good .small)
@@ -44,8 +44,9 @@ pub read-weight-spec : {M : Type 1} → statement M
 read-weight-spec =
     tie.close
     (tie.spec
+    (λ c. sym (length-take-le 2 (c .before .before .before .args .rest .now) (omega arith)))
     (λ c. search needs)
-    (λ c. search needs)
+    (λ c κs. search needs)
     (λ c. search needs)
     (λ c. search needs)
     (λ c. search needs)

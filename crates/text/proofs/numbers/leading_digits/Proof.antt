@@ -14,7 +14,7 @@ use lib.ListN.{length, getD}
 use Rattle.text.specs.Numbers.{zeroDigit, isDigit}
 use Rattle.text.specs.Leading.{leadingDigits, digitsOf}
 use Rattle.text.proofs.Read.{digit-range}
-use Rattle.text.proofs.Leading.{passedAndLeft, digits-next, digits-stop}
+use Rattle.text.proofs.Leading.{passedAndLeft, passed-next, none-left}
 use Rattle.text.proofs.numbers.leading_digits.Statement.{statement}
 use Rattle.text.proofs.numbers.leading_digits.Tie as tie
 
@@ -58,7 +58,7 @@ loop-again c =
       omega arith,
       omega (arith, room (c .before)),
       omega (arith, range (c .before), ap (λ (n : ℕ). 10 ^ n) (add-one (loop .count)) ∙ pow-suc 10 (loop .count)),
-      loop .inv .3 ∙ digits-next 10 (s (c .before)) (loop .count) (loop .value) (room (c .before)) (omega arith) (passed (c .before)),
+      loop .inv .3 ∙ passed-next 10 (s (c .before)) (loop .count) (loop .value) (room (c .before)) (omega arith) (passed (c .before)),
     )
 
 -- the byte is no digit, 10 are there, or the text ends
@@ -66,7 +66,7 @@ stops : (at : tie.At-loop Inv-loop μ-loop) → let loop = at .loop in let s = a
     (loop .count < 10 → loop .count < length s → isDigit (getD s (loop .count) 0) ≡ false)
     → record { count = loop .count; value = loop .value } ≡ digitsOf (leadingDigits 10 s)
 stops at none =
-    let loop = at .loop in sym (loop .inv .3 ∙ digits-stop 10 (at .before .before .args .s .now) (loop .count) (loop .value) none)
+    let loop = at .loop in sym (loop .inv .3 ∙ none-left 10 (at .before .before .args .s .now) (loop .count) (loop .value) none)
 
 returns : tie.Need-returns Inv-loop μ-loop
 returns c = stops (c .before .before .before .before .before) (λ h k. sym (c .before .is-digit .ensures) ∙ c .if2 .left)

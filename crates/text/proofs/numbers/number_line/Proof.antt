@@ -30,7 +30,9 @@ returns-2 c =
     let text = s (c .before) in
     let byte = getD text (d .result .count) 0 in
     sym (⊎-elim
-    (λ w. line-no-number text (d .result) (d .ensures) (w .0 .taken) (eqb-true byte lineEnd (w .2 .taken)) (sym (w .4 .ensures) ∙ w .5 .left))
+    (λ w.
+    let numeral = sym (w .4 .ensures) ∙ w .5 .left in
+    line-no-number text (d .result) (d .ensures) (w .0 .taken) (eqb-true byte lineEnd (w .2 .taken)) numeral)
     (⊎-elim
     (λ w. line-other text (d .result) (d .ensures) (λ h e. eqb-false byte lineEnd (w .2 .left) e))
     (λ w. line-other text (d .result) (d .ensures) (λ h e. absurd (omega (arith, w .left)))))
@@ -43,7 +45,10 @@ number-line-spec =
     (λ c κs. search needs)
     (λ c. search needs)
     (λ c. sym (length-take-le _ _ (omega arith)))
-    (λ c κs. let found = c .before .before .before .before in front-digits (s found) (found .leading-digits .result) (found .leading-digits .ensures))
+    (λ c κs.
+    let found = c .before .before .before .before in
+    let d = found .leading-digits in
+    front-digits (s found) (d .result) (d .ensures))
     (λ c. search needs)
     returns
     returns-2)

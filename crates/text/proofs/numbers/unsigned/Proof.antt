@@ -5,13 +5,15 @@ use mathlib.Core.Bool.{true}
 use mathlib.Core.List.{List}
 use mathlib.Core.Logic.{⊎-elim}
 use mathlib.Core.Option.{some}
-use Prim.Native.Nat.{ℕ, _^_, _<_}
+use Prim.Native.Nat.{ℕ, _^_, _≤_, _<_}
 use native.Mathlib.Omega.{arith}
 use mir.Syntax.{w64}
 use mir.Facts.{toZ-pos}
-use Rattle.text.specs.Numbers.{isNumeral}
+use lib.ListN.{length}
+use Rattle.algebra.specs.Table.{every}
+use Rattle.text.specs.Numbers.{isDigit, isNumeral}
 use Rattle.text.proofs.Read.{number-other}
-use Rattle.text.proofs.Leading.{word-digits, word-small, word-number, word-other}
+use Rattle.text.proofs.Leading.{word-digits, found-small, word-number, word-other}
 use Rattle.text.proofs.numbers.unsigned.Statement.{statement}
 use Rattle.text.proofs.numbers.unsigned.Tie as tie
 
@@ -27,7 +29,12 @@ module _ (c : tie.Then2) where
   numeral = sym (c .before .is-numeral .ensures) ∙ c .if2 .taken
 
   small : found .leading-digits .result .value < 2 ^ 63
-  small = omega (arith, word-small (word found) _ (found .leading-digits .ensures))
+  small = omega (arith, found-small (word found) _ (found .leading-digits .ensures))
+
+all-digits : (c : tie.Then1) → let w = word (c .before .before) in (length w ≤ 10) × (every isDigit w ≡ true)
+all-digits c =
+    let called = c .before .before .leading-digits in
+    word-digits (word (c .before .before)) (called .result) (called .ensures) (c .if1 .taken)
 
 returns : tie.Need-returns
 returns c =
@@ -50,7 +57,7 @@ unsigned-spec =
     tie.close
     (tie.spec
     (λ c κs. search needs)
-    (λ c κs. let called = c .before .before .leading-digits in word-digits (word (c .before .before)) (called .result) (called .ensures) (c .if1 .taken))
+    (λ c κs. all-digits c)
     (λ c. record { sfits = small (c .before) })
     returns
     returns-2)
