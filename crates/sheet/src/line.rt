@@ -86,8 +86,8 @@ pub fn read_one(rest: &[u8], keyword: &[u8]) -> LineRead
     }
 }
 
-// A line `W n`, of which a sheet may have 500. A good one, the shortest has 4 bytes, is read in one pass. Any other is read as every line
-// is, which finds its refusal.
+// A line `W n`, of which a sheet may have 500. A good one has 4 bytes or more and is read in one pass. Any other is read as every line is,
+// which finds its refusal.
 pub fn read_weight(rest: &[u8]) -> LineRead
     ensures { λ r. ⌜ lineOf 1 (now (rest .entry)) r ≡ line false W 1 (now (rest .entry)) ⌝ }
     ensures { λ r. ⌜ nextOf r ≤ length (now (rest .entry)) ⌝ }

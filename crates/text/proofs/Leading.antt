@@ -97,6 +97,7 @@ leading-before (suc n) (b ∷ s) = by (eqb b lineEnd) refl (leading-before n s)
     by true e ih = rw (eqb-true b lineEnd e)
     by false e ih = rw ih
 
+-- digits alone have none
 no-line-end : (w : List ℕ) → every isDigit w ≡ true → has lineEnd w ≡ false
 unfolding has
 no-line-end [] e = refl
