@@ -2,7 +2,7 @@
 use mathlib.Core.Path.{_≡_, refl, sym, ap, _∙_}
 use mathlib.Core.Bool.{Bool, false, true}
 use mathlib.Core.List.{List, [], _∷_}
-use Prim.Native.Nat.{ℕ, suc, _+_, _-_, _≤_, _<_}
+use Prim.Native.Nat.{ℕ, _+_, _-_, _≤_, _<_}
 use native.Mathlib.Nat.{add-assoc, sub-self, lt-trans, not-suc-le-zero}
 use native.Mathlib.Numerals.{add-one}
 use native.Mathlib.Omega.{arith}
@@ -18,6 +18,7 @@ use Rattle.algebra.proofs.Slice.{part-to-end}
 use Rattle.model.specs.declared.Law.{Law}
 use Rattle.model.specs.declared.Job.{Job}
 use Rattle.text.specs.Numbers.{signFits}
+use Rattle.text.proofs.Scan.{one-fewer}
 use Rattle.sheet.specs.declared.Reason.{Reason}
 use Rattle.sheet.specs.declared.line.LineRead.{LineRead}
 use Rattle.sheet.specs.declared.line.LineRead.the-variants as R
@@ -57,10 +58,6 @@ module _ (signs : Bool) (keyword : List ℕ) (count : ℕ) (s : List ℕ) {read 
   pub faulty-line : (lineOf count s read ≡ line signs keyword count s) × (nextOf read ≤ length s) → {reason : Reason}
       → read ≡ R.Refused reason → line signs keyword count s ≡ faulty (numberOf reason)
   faulty-line says e = sym (says .0) ∙ ap (lineOf count s) e
-
--- ---- loops over lines
-one-fewer : (count i : ℕ) → i < count → count - i ≡ suc (count - (i + 1))
-one-fewer count i h = omega arith
 
 -- ---- lines `W w`
 -- what s gives where i of the lines are read, the first of them line n, and the first i places of the row hold their weights

@@ -19,7 +19,7 @@ use Rattle.text.specs.Lines.{before, after, has}
 use Rattle.text.specs.Numbers.{zeroDigit, isDigit, isNumeral, valueFrom, value, number}
 use Rattle.text.specs.declared.numbers.Digits.{Digits}
 use Rattle.text.specs.Leading.{leadingDigits, digitsOf, withPlace, numberLine}
-use Rattle.text.proofs.Scan.{has-before}
+use Rattle.text.proofs.Scan.{one-fewer, has-before}
 use Rattle.text.proofs.Words.{split-at-first, first-after}
 use Rattle.text.proofs.Decimal.{digits-below}
 use Rattle.text.proofs.Read.{numeral-tests, number-numeral, number-other}
@@ -34,11 +34,8 @@ module _ (n : ℕ) (s : List ℕ) (i v : ℕ) where
   pub passed-next : i < n → i < length s → isDigit (getD s i 0) ≡ true
       → passedAndLeft n s i v ≡ passedAndLeft n s (i + 1) (v * 10 + (getD s i 0 - zeroDigit))
   unfolding leadingDigits valueFrom
-  passed-next h k e = rw (one-fewer, drop-next s i 0 k, e) (λ j. record { count = one-passed j; value = valueFrom next others })
+  passed-next h k e = rw (one-fewer n i h, drop-next s i 0 k, e) (λ j. record { count = one-passed j; value = valueFrom next others })
     where
-      one-fewer : n - i ≡ suc (n - (i + 1))
-      one-fewer = omega arith
-
       next : ℕ
       next = v * 10 + (getD s i 0 - zeroDigit)
 

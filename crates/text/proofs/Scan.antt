@@ -42,13 +42,14 @@ same-length [] (y ∷ t) h = refl
 same-length (x ∷ s) [] h = refl
 same-length (x ∷ s) (y ∷ t) h = rw (same-length s t (λ e. h (ap suc e))) (and-false (eqb x y))
 
--- one line further, with one line fewer to go
+-- after one step more there is one fewer to go
+pub one-fewer : (n i : ℕ) → i < n → n - i ≡ suc (n - (i + 1))
+one-fewer n i h = omega arith
+
+-- one line further
 pub lines-next : (n i : ℕ) (s : List ℕ) → i < n → afterLines (n - i) s ≡ afterLines (n - (i + 1)) (after lineEnd s)
 unfolding afterLines
-lines-next n i s h = ap (λ (k : ℕ). afterLines k s) left
-  where
-    left : n - i ≡ suc (n - (i + 1))
-    left = omega arith
+lines-next n i s h = ap (λ (k : ℕ). afterLines k s) (one-fewer n i h)
 
 -- the last line is passed as the first is
 pub lines-last : (n : ℕ) (s : List ℕ) → afterLines (suc n) s ≡ after lineEnd (afterLines n s)

@@ -94,7 +94,8 @@ DecimalIsNumber = (signs : Bool) (z : ℤ) → AtMostTenDigits z → signFits si
 abbrev pub IsDecimal : Bool → List ℕ → ℤ → Type 0
 IsDecimal signs w z = (w ≡ decimal z) × AtMostTenDigits z × (signFits signs z ≡ true)
 
--- so of every word, the empty one too, it is said just which number it is the text of, and none just where it is no such text
+-- so every word, the empty one too, is the number z just where it is the text of z and z may stand there, and none just where there is no
+-- such z
 abbrev pub NumberExactly : Type 0
 NumberExactly = (signs : Bool) (w : List ℕ)
     → ((z : ℤ) → (number signs w ≡ some z) ↔ IsDecimal signs w z) × ((number signs w ≡ none) ↔ ((z : ℤ) → IsDecimal signs w z → ⊥))
