@@ -1,7 +1,8 @@
 -- The five statements: an accepted job is within the limits and shows row 0 of the curve, of which the other files speak.
 use mathlib.Core.Path.{sym, subst, subst₂}
 use Rattle.compound.proofs.Accepted.{limits, shows}
-use Rattle.accuracy.specs.Accuracy.{amount, AcceptedDivisible, ShowsCurve, Encloses, GapWithinBound, SameBounds}
+use Rattle.exact.specs.JobAmount.{amount}
+use Rattle.accuracy.specs.Accuracy.{AcceptedDivisible, ShowsCurve, Encloses, GapWithinBound, SameBounds}
 use Rattle.accuracy.proofs.Enclosure.{Between, amount-enclosed}
 use Rattle.accuracy.proofs.Gap.{Narrow, narrow}
 use Rattle.accuracy.proofs.Bounds.{SameBound, bounds}

@@ -7,11 +7,13 @@ use lib.IntN.{ℤ, pos, natAbs, _+ℤ_, _*ℤ_}
 use Rattle.outward.specs.Division.{ceilDiv}
 use Rattle.model.specs.declared.Law.{Law}
 use Rattle.model.specs.declared.Job.{Job}
+use Rattle.model.specs.Job.{jobOf}
 use Rattle.enclosure.specs.declared.Entry.{Entry}
 use Rattle.enclosure.specs.Entry.{none, plus, scaled, allowance, rounded}
 use Rattle.compound.specs.Curve.{factor, firstEntry, sumsZero, sumsNext, entryAt, curveRows}
 use Rattle.compound.proofs.Recursion.{curve-rule}
-use Rattle.accuracy.specs.Accuracy.{Divisible, gap}
+use Rattle.exact.specs.JobAmount.{Divisible}
+use Rattle.accuracy.specs.Accuracy.{gap}
 use Rattle.compound.proofs.Preserved.{Preserved, Follows, all-preserved}
 
 abbrev pub SameBound : Entry → Entry → Type 0
@@ -40,7 +42,7 @@ same-bound = record {
 module _ (job job′ : Job) (weights : List ℕ) (same-gap : gap (job .start) ≡ gap (job′ .start)) where
   -- the second job under any law: first under that of the first job, which is then exchanged for its own
   abbrev second : Law → Job
-  second law = record { law = law; start = job′ .start; last = job′ .last }
+  second law = jobOf law (job′ .start) (job′ .last)
 
   same-first : (j : ℕ) → SameBound (firstEntry (job .start) j) (firstEntry (job′ .start) j)
   same-first zero = same-gap

@@ -23,7 +23,7 @@ use Rattle.model.specs.declared.Job.{Job}
 use Rattle.enclosure.specs.declared.Entry.{Entry}
 use Rattle.enclosure.specs.Entry.{none, plus, scaled, rounded}
 use Rattle.compound.specs.Curve.{factor, firstEntry, curveRows}
-use Rattle.accuracy.specs.Accuracy.{Divisible, frequency, severity, amount}
+use Rattle.exact.specs.JobAmount.{Divisible, frequency, severity, amount}
 use Rattle.compound.proofs.Preserved.{Preserved, Follows, all-preserved}
 open OrderedRing order using (_⊑_)
 open Semiring ℚ using (carrier as A, 𝟘, _⊹_, _·_)

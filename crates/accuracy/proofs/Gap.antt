@@ -12,7 +12,7 @@ use Rattle.model.specs.declared.Job.{Job}
 use Rattle.enclosure.specs.declared.Entry.{Entry}
 use Rattle.enclosure.specs.Entry.{plus, scaled, allowance, rounded}
 use Rattle.compound.specs.Curve.{firstEntry, curveRows}
-use Rattle.accuracy.specs.Accuracy.{Divisible}
+use Rattle.exact.specs.JobAmount.{Divisible}
 use Rattle.compound.proofs.Preserved.{PreservedAlone, all-entries}
 
 abbrev pub Narrow : Entry → Type 0

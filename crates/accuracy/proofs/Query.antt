@@ -17,13 +17,14 @@ use Rattle.algebra.proofs.Smallest.{smallest-none}
 use Rattle.algebra.proofs.Value.{≼-refl, ≼-trans, whole-mono, le-of-whole}
 use Rattle.model.specs.declared.Job.{Job}
 use Rattle.model.specs.Answer.{condition, firstOf}
-use Rattle.model.proofs.Answer.{inside}
+use Rattle.model.proofs.Tests.{inside}
 use Rattle.compound.specs.Call.{Lent, curveLent}
 use Rattle.compound.proofs.Accepted.{limits, entry-small, lows-long, highs-long}
 use Rattle.quantile.specs.Call.{wrongLengths, wrongLevel, wrongAt, firstWrong, unreached, quantiles}
 use Rattle.quantile.specs.Enclosed.{Enclose}
 use Rattle.quantile.proofs.Enclosed.{quantile-enclosed}
-use Rattle.accuracy.specs.Accuracy.{Accepted, Divisible, shown, amount}
+use Rattle.accuracy.specs.Accuracy.{Accepted, shown}
+use Rattle.exact.specs.JobAmount.{Divisible, amount}
 use Rattle.accuracy.specs.Query.{lows, highs, RowsNotRefused, RowsEnclose, EnclosesQuantile}
 use Rattle.accuracy.proofs.Accuracy.{accepted-divisible, encloses}
 

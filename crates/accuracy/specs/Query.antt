@@ -10,7 +10,8 @@ use Rattle.model.specs.Answer.{condition, firstOf}
 use Rattle.compound.specs.Call.{Lent, curveLent}
 use Rattle.quantile.specs.Call.{wrongLevel, unreached, quantiles}
 use Rattle.quantile.specs.Enclosed.{QuantileFrom, Enclose, Accepted as QueryAccepted}
-use Rattle.accuracy.specs.Accuracy.{Accepted, Divisible, amount}
+use Rattle.accuracy.specs.Accuracy.{Accepted}
+use Rattle.exact.specs.JobAmount.{Divisible, amount}
 
 -- the first X+1 places of the lent rows on return
 abbrev pub lows : Job → List ℕ → Lent → List ℤ

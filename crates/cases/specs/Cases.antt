@@ -12,6 +12,7 @@ use Rattle.algebra.specs.Table.{sameInteger, sameList}
 use Rattle.model.specs.declared.Law.{Law}
 use Rattle.model.specs.declared.Start.{Start}
 use Rattle.model.specs.declared.Job.{Job}
+use Rattle.model.specs.Job.{lawOf, startOf, jobOf}
 use Rattle.model.specs.Answer.{Answer, accepted, refused}
 use Rattle.compound.specs.Call.{Lent, lentRows, curveAnswer, curveLent}
 use Rattle.quantile.specs.Call.{Quantiles, quantiles}
@@ -46,14 +47,7 @@ padded terms = terms ++ replicate (4 - length terms) (pos 0)
 
 -- k, D, A_1, .. and B_1, ..
 abbrev law : (k D : ℕ) (A B : List ℤ) → Law
-law k D A B = record { order = k; divisor = D; a = padded A; b = padded B }
-
--- s and t
-abbrev start : (s t : ℕ) → Start
-start s t = record { low = s; high = t }
-
-abbrev job : (law : Law) (start : Start) (X : ℕ) → Job
-job law start X = record { law = law; start = start; last = X }
+law k D A B = lawOf k D (padded A) (padded B)
 
 -- ---- lent rows
 -- what every place holds at entry, so that it shows which ones the call writes
@@ -94,7 +88,7 @@ acceptance s job weights after =
 -- "A refusal writes nothing.", and its other numbers are 0
 abbrev refusal : (s : List ℕ) (number line : ℕ) (word : String) → Case
 refusal s number line word =
-    reader s places (record { answer = refused number line; job = job (law 0 0 [] []) (start 0 0) 0; count = 0; weights = [] }) places
+    reader s places (record { answer = refused number line; job = jobOf (law 0 0 [] []) (startOf 0 0) 0; count = 0; weights = [] }) places
     (ascii word)
 
 -- ---- level queries
@@ -111,10 +105,10 @@ abbrev call : (job : Job) (weights : List ℕ) (answer : Answer) (after : ℕ �
 call job weights answer after = curve job weights (lentFor (job .last)) answer (after (job .last))
 
 abbrev row : (law : Law) (start : Start) (X : ℕ) (weights : List ℕ) (answer : Answer) (after : ℕ → Lent) → Case
-row law start X = call (job law start X)
+row law start X = call (jobOf law start X)
 
 abbrev jobP1 : Job
-jobP1 = job (law 1 1 (pos 0 ∷ []) (pos 1 ∷ [])) (start 367879441 367879442) 3
+jobP1 = jobOf (law 1 1 (pos 0 ∷ []) (pos 1 ∷ [])) (startOf 367879441 367879442) 3
 
 -- P1, as the program writes it
 abbrev lowP1 : List ℤ
@@ -131,7 +125,7 @@ abbrev lawP2 : Law
 lawP2 = law 1 1 (negℤ (pos 1) ∷ []) (pos 3 ∷ [])
 
 abbrev startP2 : Start
-startP2 = start 250000000 250000000
+startP2 = startOf 250000000 250000000
 
 -- "Lows and highs 250000000, 500000000, 250000000, 0, 0; bounds 0, 1, 2, 1, 2."
 abbrev rowsP2 : (X : ℕ) → Lent
@@ -147,23 +141,23 @@ cases =
     -- P2: "X 4"
     ∷ row lawP2 startP2 4 (1 ∷ []) accepted rowsP2
     -- P3: "At 1: low -1, high 0, bound 2."
-    ∷ row (law 1 2 (negℤ (pos 1) ∷ []) (pos 0 ∷ [])) (start 1 2) 1 (1 ∷ []) accepted
+    ∷ row (law 1 2 (negℤ (pos 1) ∷ []) (pos 0 ∷ [])) (startOf 1 2) 1 (1 ∷ []) accepted
     (holding (pos 1 ∷ negℤ (pos 1) ∷ []) (pos 2 ∷ pos 0 ∷ []) (pos 1 ∷ pos 2 ∷ []))
     -- "P3 with start 1 twice": "The rule gives low -1, high 0, bound 1."
-    ∷ row (law 1 2 (negℤ (pos 1) ∷ []) (pos 0 ∷ [])) (start 1 1) 1 (1 ∷ []) accepted
+    ∷ row (law 1 2 (negℤ (pos 1) ∷ []) (pos 0 ∷ [])) (startOf 1 1) 1 (1 ∷ []) accepted
     (holding (pos 1 ∷ negℤ (pos 1) ∷ []) (pos 1 ∷ pos 0 ∷ []) (pos 0 ∷ pos 1 ∷ []))
     -- P4: "At 1: 0, 0, bound 1. At 2: 200000000, 200000001, bound 2."
-    ∷ row (law 2 1 (pos 0 ∷ pos 0 ∷ []) (pos 0 ∷ pos 1 ∷ [])) (start 400000001 400000001) 2 (1 ∷ []) accepted
+    ∷ row (law 2 1 (pos 0 ∷ pos 0 ∷ []) (pos 0 ∷ pos 1 ∷ [])) (startOf 400000001 400000001) 2 (1 ∷ []) accepted
     (holding (map pos (400000001 ∷ 0 ∷ 200000000 ∷ [])) (map pos (400000001 ∷ 0 ∷ 200000001 ∷ [])) (map pos (0 ∷ 1 ∷ 2 ∷ [])))
     -- P5: "refusal 9 at 1"
-    ∷ row (law 1 1 (pos 0 ∷ []) (pos 3 ∷ [])) (start 1000000000 1000000000) 1 (1 ∷ []) (refused 9 1) cleared
+    ∷ row (law 1 1 (pos 0 ∷ []) (pos 3 ∷ [])) (startOf 1000000000 1000000000) 1 (1 ∷ []) (refused 9 1) cleared
     -- "With B 2: accepted, 2U."
-    ∷ row (law 1 1 (pos 0 ∷ []) (pos 2 ∷ [])) (start 1000000000 1000000000) 1 (1 ∷ []) accepted
+    ∷ row (law 1 1 (pos 0 ∷ []) (pos 2 ∷ [])) (startOf 1000000000 1000000000) 1 (1 ∷ []) accepted
     (holding (map pos (1000000000 ∷ 2000000000 ∷ [])) (map pos (1000000000 ∷ 2000000000 ∷ [])) (map pos (0 ∷ 1 ∷ [])))
     -- P6: "refusal 10 at 1"
-    ∷ row (law 1 1 (pos 0 ∷ []) (pos 1 ∷ [])) (start 0 1000000000) 1 (1 ∷ []) (refused 10 1) cleared
+    ∷ row (law 1 1 (pos 0 ∷ []) (pos 1 ∷ [])) (startOf 0 1000000000) 1 (1 ∷ []) (refused 10 1) cleared
     -- "With X 0: accepted."
-    ∷ row (law 1 1 (pos 0 ∷ []) (pos 1 ∷ [])) (start 0 1000000000) 0 (1 ∷ []) accepted
+    ∷ row (law 1 1 (pos 0 ∷ []) (pos 1 ∷ [])) (startOf 0 1000000000) 0 (1 ∷ []) accepted
     (holding (map pos (0 ∷ [])) (map pos (1000000000 ∷ [])) (map pos (1000000000 ∷ [])))
     -- P7: "P2 with w(1) 1,000 is accepted; with 1,001 it gives 6."
     ∷ row lawP2 startP2 4 (1000 ∷ []) accepted rowsP2

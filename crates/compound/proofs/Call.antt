@@ -14,8 +14,9 @@ use Rattle.algebra.specs.Smallest.{smallest}
 use Rattle.algebra.proofs.Smallest.{smallest-finds}
 use Rattle.model.specs.declared.Job.{Job}
 use Rattle.model.specs.Answer.{Condition, accepted, firstOf}
-use Rattle.model.proofs.Answer.{passed, within}
-use Rattle.enclosure.specs.Entry.{unit, beyond}
+use Rattle.model.proofs.Answer.{passed}
+use Rattle.model.proofs.Tests.{within}
+use Rattle.model.specs.Limits.{unit, beyond}
 use Rattle.compound.specs.Call.{Lent, termLimit, wrongTerm, shorter, workPlaces, tooShort, checks}
 use Rattle.compound.specs.Room.{Limits, LongEnough}
 

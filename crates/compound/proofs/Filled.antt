@@ -18,7 +18,8 @@ use Rattle.algebra.proofs.Sum.{accumulate-cong}
 use Rattle.model.specs.declared.Job.{Job}
 use Rattle.model.specs.Answer.{accepted, refused, isAccepted, firstOf}
 use Rattle.model.proofs.Answer.{first-none, first-holds, first-fails}
-use Rattle.enclosure.specs.Entry.{unit, outOfRange, boundTooLarge}
+use Rattle.model.specs.Limits.{unit}
+use Rattle.enclosure.specs.Entry.{outOfRange, boundTooLarge}
 use Rattle.compound.specs.Curve.{Rows, entryAt, curveRows}
 use Rattle.compound.specs.Call.{Lent, anyRow, faultAt, firstFault, faults}
 use Rattle.enclosure.specs.Term.{Small}

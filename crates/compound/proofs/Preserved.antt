@@ -10,7 +10,7 @@ use lib.ListN.{getD}
 use Rattle.algebra.specs.Sum.{accumulate}
 use Rattle.algebra.proofs.Induction.{strong}
 use Rattle.algebra.proofs.Sum.{sum-related}
-use Rattle.exact.specs.Severity.{totalWeight}
+use Rattle.model.specs.Table.{totalWeight}
 use Rattle.model.specs.declared.Job.{Job}
 use Rattle.enclosure.specs.declared.Entry.{Entry}
 use Rattle.enclosure.specs.Entry.{none, plus, sumOf, scaled, rounded}

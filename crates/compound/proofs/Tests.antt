@@ -6,7 +6,7 @@ use native.Mathlib.Nat as NL
 use native.Mathlib.Decide.{decLe}
 use borrow.Author.Tests.{lt-ltb}
 use lib.Dec.{ltb}
-use Rattle.model.specs.Answer.{outside}
+use Rattle.model.specs.Limits.{outside}
 
 -- a sum that stops at 1,001 lies outside 1 to 1,000 where the whole sum does
 pub capped-outside : (w : ℕ) → outside 1 1000 (min w 1001) ≡ outside 1 1000 w

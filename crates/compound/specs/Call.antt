@@ -8,18 +8,19 @@ use lib.ListN.{length, getD, replicate}
 use Rattle.algebra.specs.Slice.{listed, written}
 use Rattle.algebra.specs.Smallest.{smallest}
 use Rattle.algebra.specs.Sum.{accumulate}
-use Rattle.exact.specs.Severity.{totalWeight}
+use Rattle.model.specs.Table.{totalWeight}
 use Rattle.model.specs.declared.Law.{Law}
 use Rattle.model.specs.declared.Start.{Start}
 use Rattle.model.specs.declared.Job.{Job}
-use Rattle.model.specs.Answer.{Answer, Condition, accepted, refused, isAccepted, condition, firstOf, outside}
+use Rattle.model.specs.Answer.{Answer, Condition, accepted, refused, isAccepted, condition, firstOf}
+use Rattle.model.specs.Limits.{outside, unit, beyond}
 use Rattle.enclosure.specs.declared.Entry.{Entry}
 use Rattle.compound.specs.declared.Reason.{Reason}
 use Rattle.compound.specs.declared.Reason.the-variants.{Order, Divisor, Term, Start as StartReason, Severities, Weights, Last}
 use Rattle.compound.specs.declared.Reason.the-variants.{Room, Range, Bound}
 use Rattle.compound.specs.declared.CurveAnswer.{CurveAnswer}
 use Rattle.compound.specs.declared.CurveAnswer.the-variants.{Accepted, Refused}
-use Rattle.enclosure.specs.Entry.{unit, beyond, outOfRange, boundTooLarge}
+use Rattle.enclosure.specs.Entry.{outOfRange, boundTooLarge}
 use Rattle.compound.specs.Curve.{Rows, curveRows}
 
 -- ---- the answer

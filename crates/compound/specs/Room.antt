@@ -6,7 +6,7 @@ use mathlib.Core.List.{List}
 use Prim.Native.Nat.{ℕ, zero, suc, _+_, _*_, _≤_, _<_}
 use lib.IntN.{ℤ, pos, natAbs, _*ℤ_}
 use lib.ListN.{length, getD, set, take, drop}
-use Rattle.exact.specs.Severity.{totalWeight}
+use Rattle.model.specs.Table.{totalWeight}
 use Rattle.model.specs.declared.Job.{Job}
 use Rattle.model.specs.declared.Law.{Law}
 use Rattle.model.specs.Answer.{isAccepted, firstOf}
@@ -16,7 +16,8 @@ use Rattle.compound.specs.declared.Reason.{Reason}
 use Rattle.compound.specs.declared.CurveAnswer.the-variants.{Refused}
 use Rattle.compound.specs.declared.check.Checked.{Checked}
 use Rattle.compound.specs.declared.fill.Faults.{Faults}
-use Rattle.enclosure.specs.Entry.{unit, outOfRange, boundTooLarge}
+use Rattle.model.specs.Limits.{unit}
+use Rattle.enclosure.specs.Entry.{outOfRange, boundTooLarge}
 use Rattle.enclosure.specs.Term.{Small, entryOf}
 use Rattle.compound.specs.Curve.{Rows, entryAt, curveRows}
 use Rattle.compound.specs.Call.{Lent, workPlaces, anyRow, faults}

@@ -3,19 +3,19 @@
 use super::CurveAnswer;
 use super::Reason;
 use super::rows::WORK_COLUMNS;
-use enclosure::rule::is_either_beyond;
 use model::Job;
 use model::Law;
 use model::Start;
-use model::is_outside;
+use model::limits::is_either_beyond;
+use model::limits::is_outside;
 ghost use mathlib.Core.Path.{_≡_};
 ghost use mathlib.Core.Bool.{true, _||_};
 ghost use Prim.Native.Nat.{_≤_, min};
 ghost use lib.IntN.{pos};
 ghost use Rattle.algebra.specs.Smallest.{smallest};
-ghost use Rattle.exact.specs.Severity.{totalWeight};
+ghost use Rattle.model.specs.Table.{totalWeight};
 ghost use Rattle.model.specs.Answer.{isAccepted, firstOf};
-ghost use Rattle.enclosure.specs.Entry.{beyond};
+ghost use Rattle.model.specs.Limits.{beyond};
 ghost use Rattle.compound.specs.Call.{termLimit, wrongTerm, wrongStart, tooShort, paper, checks, lentRows};
 ghost use Rattle.compound.specs.Room.{refusedBy};
 

@@ -11,7 +11,7 @@ use model::Job;
 ghost use mathlib.Core.Path.{_≡_};
 ghost use mathlib.Core.Bool.{_||_};
 ghost use Prim.Native.Nat.{_+_};
-ghost use Rattle.exact.specs.Severity.{totalWeight};
+ghost use Rattle.model.specs.Table.{totalWeight};
 ghost use Rattle.enclosure.specs.Entry.{outOfRange, boundTooLarge};
 ghost use Rattle.compound.specs.Curve.{entryAt};
 ghost use Rattle.model.specs.Answer.{firstOf};

@@ -1,7 +1,6 @@
--- Proofs that the functions share, bottom up: entries and their opposites, lines, sizes, raised sums, runs; and what tests say.
+-- Proofs that the functions share, bottom up: entries and their opposites, lines, sizes, raised sums, runs.
 pub mod Scaled
 pub mod Line
 pub mod Sizes
 pub mod Lowered
 pub mod RunByRun
-pub mod Tests

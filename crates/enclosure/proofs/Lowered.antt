@@ -21,7 +21,8 @@ use Rattle.algebra.proofs.Integer.{integers, signed, split-add, split-size, *�
 use Rattle.enclosure.specs.declared.Entry.{Entry}
 use Rattle.enclosure.specs.declared.term.Factor.{Factor}
 use Rattle.enclosure.specs.declared.raised.Raised.{Raised}
-use Rattle.enclosure.specs.Entry.{unit, none, plus, scaled}
+use Rattle.model.specs.Limits.{unit}
+use Rattle.enclosure.specs.Entry.{none, plus, scaled}
 use Rattle.enclosure.specs.Term.{Small, lineAt, lineFactor}
 use Rattle.enclosure.specs.Run.{AddRoom, RunRoom, RaisedSmall, runSums}
 use Rattle.enclosure.specs.Run.{raised, raisedTerm, raisedNone, raisedPlus, raisedAt, raisedSums, lowered}

@@ -13,12 +13,13 @@ use Rattle.algebra.specs.Sum.{accumulate, sumℕ}
 use Rattle.algebra.proofs.Natural.{naturals}
 use Rattle.algebra.proofs.Sum.{accumulate-next, sum-zero, sum-shift, sum-vanishes}
 use Rattle.algebra.proofs.Size.{size-add, size-mul-le, size-fits}
-use Rattle.exact.specs.Severity.{totalWeight}
+use Rattle.model.specs.Table.{totalWeight}
 use Rattle.outward.specs.Division.{ceilDiv}
 use Rattle.outward.proofs.Division.{ceil-size}
 use Rattle.enclosure.specs.declared.Entry.{Entry}
 use Rattle.enclosure.specs.declared.term.Factor.{Factor}
-use Rattle.enclosure.specs.Entry.{unit, plus, scaled}
+use Rattle.model.specs.Limits.{unit}
+use Rattle.enclosure.specs.Entry.{plus, scaled}
 use Rattle.enclosure.specs.Term.{TermRoom, Small, lineAt, lineFactor, termAt, termSums}
 use Rattle.enclosure.specs.Run.{FactorSmall, EntryFits}
 

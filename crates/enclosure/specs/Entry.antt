@@ -1,10 +1,10 @@
 -- Entries of a row, and what the outward rule does with them.
 use mathlib.Core.Bool.{Bool, _||_}
 use Prim.Native.Nat.{ℕ, _*_}
-use lib.Dec.{ltb}
 use lib.IntN.{ℤ, pos, negsuc, negℤ, natAbs, _+ℤ_, _*ℤ_}
 use lib.Signed.{ltZ}
 use Rattle.algebra.specs.Sum.{accumulate}
+use Rattle.model.specs.Limits.{unit, beyond}
 use Rattle.outward.specs.Division.{floorDiv, ceilDiv}
 use Rattle.enclosure.specs.declared.Entry.{Entry}
 
@@ -55,14 +55,6 @@ unfoldable pub rounded : ℕ → Entry → Entry
 rounded d s = record { low = floorDiv (s .low) d; high = ceilDiv (s .high) d; bound = ceilDiv (s .bound) d +ℤ allowance d }
 
 -- ---- faults
--- U, the paper's "unit", which stands for chance 1
-abbrev pub unit : ℕ
-unit = 1000000000
-
--- z lies outside -limit to limit
-abbrev pub beyond : ℕ → ℤ → Bool
-beyond limit z = ltb limit (natAbs z)
-
 -- "a low or high .. lies outside -2U to 2U"
 abbrev pub outOfRange : Entry → Bool
 outOfRange e = beyond (2 * unit) (e .low) || beyond (2 * unit) (e .high)

@@ -9,12 +9,13 @@ use lib.ListN.{length}
 use mir.Syntax.{w64}
 use mir.Val.{SFits}
 use Rattle.algebra.specs.Sum.{accumulateBack}
-use Rattle.exact.specs.Severity.{totalWeight}
+use Rattle.model.specs.Table.{totalWeight}
 use Rattle.enclosure.specs.declared.Entry.{Entry}
 use Rattle.enclosure.specs.declared.raised.Raised.{Raised}
 use Rattle.enclosure.specs.declared.run.Run.{Run}
 use Rattle.enclosure.specs.declared.term.Factor.{Factor}
-use Rattle.enclosure.specs.Entry.{unit, none, plus}
+use Rattle.model.specs.Limits.{unit}
+use Rattle.enclosure.specs.Entry.{none, plus}
 use Rattle.enclosure.specs.Term.{Small, lineAt, lineFactor, termAt}
 
 -- ---- numbers that fit

@@ -2,17 +2,16 @@
 // and has at most 32 bits, so that the processor multiplies two pairs at once.
 
 use super::Entry;
-use super::rule::UNIT;
 use super::term::Factor;
 use super::term::line_at;
+use model::limits::UNIT;
 ghost use mathlib.Core.Path.{_≡_};
 ghost use Prim.Native.Nat.{_+_, _-_, _*_, _<_, _≤_, _^_};
 ghost use lib.IntN.{natAbs};
 ghost use lib.ListN.{length};
-ghost use Rattle.enclosure.specs.Entry.{unit};
+ghost use Rattle.model.specs.Limits.{unit};
 ghost use Rattle.enclosure.specs.Term.{entryOf};
-ghost use Rattle.enclosure.specs.Run.{RunRoom, RaisedSmall, AddRoom};
-ghost use Rattle.enclosure.specs.Run.{raised, raisedTerm, raisedPlus, raisedSums, lowered, runSums};
+ghost use Rattle.enclosure.specs.Run.{RunRoom, RaisedSmall, AddRoom, raised, raisedTerm, raisedPlus, raisedSums, lowered, runSums};
 
 // Sums of entries raised by 2U, each times its factor, and the sum of the factors.
 pub struct Raised {

@@ -1,6 +1,8 @@
 // What the outward rule does with entries.
 
 use super::Entry;
+use model::limits::UNIT;
+use model::limits::is_either_beyond;
 ghost use mathlib.Core.Path.{_≡_};
 ghost use mathlib.Core.Bool.{_||_};
 ghost use Prim.Native.Nat.{_≤_, _<_, _^_};
@@ -9,11 +11,9 @@ ghost use lib.Signed.{_≤ℤ_};
 ghost use mir.Syntax.{w64};
 ghost use mir.Val.{SFits};
 ghost use Rattle.outward.specs.Division.{ceilDiv};
-ghost use Rattle.enclosure.specs.Entry.{plus, minus, rounded, beyond, outOfRange, boundTooLarge};
+ghost use Rattle.enclosure.specs.Entry.{plus, minus, rounded, outOfRange, boundTooLarge};
+ghost use Rattle.model.specs.Limits.{beyond};
 ghost use Rattle.enclosure.specs.Run.{EntryFits};
-
-// U, which stands for chance 1.
-pub const UNIT: i64 = 1_000_000_000;
 
 pub fn add(a: Entry, b: Entry) -> Entry
     requires { ⌜ EntryFits (plus a b) ⌝ }
@@ -50,22 +50,6 @@ pub fn divide_sums(sums: Entry, divisor: u64) -> Entry
         high: ends.high,
         bound: bound + 1,
     }
-}
-
-// Whether `z` lies outside -`limit` to `limit`.
-fn is_beyond(limit: i64, z: i64) -> bool
-    requires { ⌜ pos 0 ≤ℤ limit ⌝ }
-    ensures { λ r. ⌜ r ≡ beyond (natAbs limit) z ⌝ }
-{
-    z < -limit || limit < z
-}
-
-// Whether one of two numbers does.
-pub fn is_either_beyond(limit: i64, y: i64, z: i64) -> bool
-    requires { ⌜ pos 0 ≤ℤ limit ⌝ }
-    ensures { λ r. ⌜ r ≡ (beyond (natAbs limit) y || beyond (natAbs limit) z) ⌝ }
-{
-    is_beyond(limit, y) || is_beyond(limit, z)
 }
 
 // Whether an entry's low or high lies outside -2U to 2U.

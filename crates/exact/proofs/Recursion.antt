@@ -13,7 +13,8 @@ use Rattle.algebra.proofs.Ring.{int-pos, int-add, int-mul}
 use Rattle.algebra.proofs.Sum.{sum-zero, sum-cong, sum-scale, sum-cut}
 use Rattle.algebra.specs.Fraction.{Fraction, over, overSuc, zeroTo}
 use Rattle.exact.specs.Frequency.{Frequency, a, b, countCoefficient}
-use Rattle.exact.specs.Severity.{Severity, totalWeight, weight, density, convolution}
+use Rattle.exact.specs.Severity.{Severity, weight, density, convolution}
+use Rattle.model.specs.Table.{totalWeight}
 use Rattle.exact.specs.Amount.{exactAmount}
 use Rattle.exact.specs.Recursion.{PublishedRecursion, RowRecursion, factor, WholeRecursion, WholeConvolution, FirstEntries}
 use Rattle.algebra.proofs.Value.{order, ℚ, value, eq-of-value, value-plus, value-times, value-oneTo}

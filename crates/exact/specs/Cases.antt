@@ -1,15 +1,16 @@
 -- Exact amounts that were worked out apart from these definitions (calculator/, from the laws' closed forms), as rows of one table.
 use mathlib.Core.Bool.{Bool}
 use mathlib.Core.List.{List, [], _∷_, List·Memᴰ}
-use Prim.Native.Nat.{ℕ, _-_, _≤_}
+use Prim.Native.Nat.{ℕ, _≤_}
 use lib.Dec.{lit≤}
 use lib.IntN.{ℤ, pos, negsuc, _*ℤ_}
-use lib.ListN.{getD}
 use Rattle.algebra.specs.Fraction.{Fraction, over, whole, _≈_}
 use Rattle.algebra.specs.Table.{sameInteger}
 use Rattle.exact.specs.Frequency.{Frequency}
-use Rattle.exact.specs.Severity.{Severity, totalWeight}
+use Rattle.exact.specs.Severity.{Severity}
+use Rattle.model.specs.Job.{lawOf}
 use Rattle.exact.specs.Amount.{exactAmount}
+use Rattle.exact.specs.JobAmount.{frequency, severity}
 
 pub record Case : Type 0 where
   pub law : Frequency
@@ -23,55 +24,46 @@ abbrev pub Holds : Case → Type 0
 Holds c = exactAmount (c .law) (c .table) (c .start) (c .total) ≈ c .amount
 
 -- ---- laws of order 1 and 2, by their divisor and terms
-abbrev lawOf : (k D : ℕ) → 1 ≤ D → List ℤ → List ℤ → Frequency
-lawOf k D h termsA termsB = record {
-  order = k;
-  divisor = D;
-  divisor-pos = h;
-  termA = λ i. getD termsA (i - 1) (pos 0);
-  termB = λ i. getD termsB (i - 1) (pos 0);
-}
+abbrev countLaw : (k D : ℕ) → 1 ≤ D → List ℤ → List ℤ → Frequency
+countLaw k D h termsA termsB = frequency (lawOf k D termsA termsB) h
 
 -- mean 3/2
 abbrev pub poisson : Frequency
-poisson = lawOf 1 2 (lit≤ tt) (pos 0 ∷ []) (pos 3 ∷ [])
+poisson = countLaw 1 2 (lit≤ tt) (pos 0 ∷ []) (pos 3 ∷ [])
 
 -- 4 trials of chance 1/3
 abbrev pub binomial : Frequency
-binomial = lawOf 1 2 (lit≤ tt) (negsuc 0 ∷ []) (pos 5 ∷ [])
+binomial = countLaw 1 2 (lit≤ tt) (negsuc 0 ∷ []) (pos 5 ∷ [])
 
 -- shape 2, chance 1/3
 abbrev pub negativeBinomial : Frequency
-negativeBinomial = lawOf 1 3 (lit≤ tt) (pos 1 ∷ []) (pos 1 ∷ [])
+negativeBinomial = countLaw 1 3 (lit≤ tt) (pos 1 ∷ []) (pos 1 ∷ [])
 
 -- powers of -1/2: no distribution, and amounts below zero
 abbrev pub alternating : Frequency
-alternating = lawOf 1 2 (lit≤ tt) (negsuc 0 ∷ []) (pos 0 ∷ [])
+alternating = countLaw 1 2 (lit≤ tt) (negsuc 0 ∷ []) (pos 0 ∷ [])
 
 -- negative binomial of shape 2 and chance 1/2, together with 2 trials of chance 1/2 (Corollary 4 of document 002)
 abbrev pub together : Frequency
-together = lawOf 2 2 (lit≤ tt) (negsuc 0 ∷ pos 1 ∷ []) (pos 7 ∷ negsuc 1 ∷ [])
+together = countLaw 2 2 (lit≤ tt) (negsuc 0 ∷ pos 1 ∷ []) (pos 7 ∷ negsuc 1 ∷ [])
 
 -- claims that come in pairs, pairs with mean 1/2: the law of the paper's case P4
 abbrev pub paired : Frequency
-paired = lawOf 2 1 (lit≤ tt) (pos 0 ∷ pos 0 ∷ []) (pos 0 ∷ pos 1 ∷ [])
+paired = countLaw 2 1 (lit≤ tt) (pos 0 ∷ pos 0 ∷ []) (pos 0 ∷ pos 1 ∷ [])
 
 -- ---- tables
-abbrev tableOf : (ws : List ℕ) → 1 ≤ totalWeight ws → Severity
-tableOf ws h = record { weights = ws; total-pos = h }
-
 abbrev pub single : Severity
-single = tableOf (1 ∷ []) (lit≤ tt)
+single = severity (1 ∷ []) (lit≤ tt)
 
 abbrev pub two : Severity
-two = tableOf (1 ∷ 1 ∷ []) (lit≤ tt)
+two = severity (1 ∷ 1 ∷ []) (lit≤ tt)
 
 -- no claim has size 2
 abbrev pub gap : Severity
-gap = tableOf (2 ∷ 0 ∷ 1 ∷ []) (lit≤ tt)
+gap = severity (2 ∷ 0 ∷ 1 ∷ []) (lit≤ tt)
 
 abbrev pub four : Severity
-four = tableOf (3 ∷ 1 ∷ 4 ∷ 1 ∷ []) (lit≤ tt)
+four = severity (3 ∷ 1 ∷ 4 ∷ 1 ∷ []) (lit≤ tt)
 
 -- ---- the table of cases
 abbrev row : Frequency → Severity → Fraction → ℕ → Fraction → Case

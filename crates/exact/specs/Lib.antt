@@ -2,5 +2,6 @@
 pub mod Frequency
 pub mod Severity
 pub mod Amount
+pub mod JobAmount
 pub mod Recursion
 pub mod Cases

@@ -4,7 +4,8 @@ use lib.IntN.{ℤ, pos, _+ℤ_, _*ℤ_}
 use lib.ListN.{length}
 use Rattle.algebra.specs.Fraction.{Fraction, whole, _⊕_, _⊗_, overSuc, oneTo, _≈_}
 use Rattle.exact.specs.Frequency.{Frequency, a, b}
-use Rattle.exact.specs.Severity.{Severity, totalWeight, weight, density, convolution}
+use Rattle.exact.specs.Severity.{Severity, weight, density, convolution}
+use Rattle.model.specs.Table.{totalWeight}
 use Rattle.exact.specs.Amount.{exactAmount, exactRow}
 
 -- Corollary 5 of Sundt (1992), document 002, times x: the amount at x is the sum over y from 1 to x of the amount at x - y times the

@@ -1,14 +1,10 @@
 -- The table of claim sizes (the paper's "table"), and its convolutions.
-use mathlib.Core.List.{List, [], _∷_}
-use Prim.Native.Nat.{ℕ, zero, suc, _+_, _-_, _≤_, _<_}
+use mathlib.Core.List.{List}
+use Prim.Native.Nat.{ℕ, zero, suc, _-_, _≤_, _<_}
 use lib.IntN.{pos}
 use lib.ListN.{getD}
 use Rattle.algebra.specs.Fraction.{Fraction, over, whole, _⊗_, oneTo, _≈_}
-
--- W, the sum of the weights
-abbrev pub totalWeight : List ℕ → ℕ
-totalWeight [] = 0
-totalWeight (w ∷ ws) = w + totalWeight ws
+use Rattle.model.specs.Table.{totalWeight}
 
 -- the weights w(1), .., w(m)
 pub record Severity : Type 0 where

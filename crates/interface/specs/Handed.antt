@@ -4,6 +4,7 @@ use Prim.Native.Nat.{ℕ}
 use lib.IntN.{ℤ}
 use lib.ListN.{take}
 use Rattle.model.specs.declared.Job.{Job}
+use Rattle.model.specs.Job.{lawOf, startOf, jobOf}
 use Rattle.model.specs.Answer.{Answer}
 use Rattle.sheet.specs.Call.{Told}
 use Rattle.quantile.specs.Call.{Quantiles}
@@ -14,8 +15,7 @@ returned number place = record { number = number; place = place }
 
 -- k, D, A_1..A_4, B_1..B_4, s, t and X
 abbrev pub jobOfNumbers : ℕ → ℕ → List ℤ → List ℤ → ℕ → ℕ → ℕ → Job
-jobOfNumbers order divisor a b low high last =
-    record { law = record { order = order; divisor = divisor; a = a; b = b }; start = record { low = low; high = high }; last = last }
+jobOfNumbers order divisor a b low high last = jobOf (lawOf order divisor a b) (startOf low high) last
 
 -- what the reader tells; the weights are the first of the row
 abbrev pub tells : Answer → Job → ℕ → List ℕ → Told

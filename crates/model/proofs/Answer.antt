@@ -2,14 +2,13 @@
 use mathlib.Core.Path.{_≡_, refl, sym, _∙_, ap}
 use mathlib.Core.Bool.{Bool, true, false, cond}
 use mathlib.Core.List.{List, [], _∷_, _++_}
-use Prim.Native.Nat.{ℕ, suc, _≤_}
+use Prim.Native.Nat.{ℕ, suc}
 use native.Mathlib.Nat as NL
-use borrow.Author.Tests.{ne-eqb, le-ltb, ltb-false}
+use borrow.Author.Tests.{ne-eqb}
 use lib.Dec.{T, ltb, eqb, ltb→lt}
-use Rattle.algebra.proofs.Or.{or-left, or-right}
 use Rattle.algebra.specs.Table.{every}
 use Rattle.algebra.proofs.Table.{and-left, and-right}
-use Rattle.model.specs.Answer.{Answer, Condition, accepted, refused, isAccepted, condition, firstOf, outside}
+use Rattle.model.specs.Answer.{Answer, Condition, accepted, refused, isAccepted, condition, firstOf}
 
 pub first-none : firstOf [] ≡ accepted
 unfolding firstOf
@@ -67,10 +66,3 @@ first-passed cs ds t e = by (isAccepted (firstOf cs)) refl (sym (first-append cs
     by : (b : Bool) → isAccepted (firstOf cs) ≡ b → cond b (firstOf ds) (firstOf cs) ≡ accepted → isAccepted (firstOf cs) ≡ true
     by true p q = p
     by false p q = ap isAccepted q
-
--- a number that is not outside
-pub inside : (least most n : ℕ) → least ≤ n → n ≤ most → outside least most n ≡ false
-inside least most n h k = rw (le-ltb n least h, le-ltb most n k)
-
-pub within : (least most n : ℕ) → outside least most n ≡ false → (least ≤ n) × (n ≤ most)
-within least most n e = (ltb-false n least (or-left (ltb n least) (ltb most n) e), ltb-false most n (or-right (ltb n least) (ltb most n) e))

@@ -1,2 +1,3 @@
--- Laws of answers, for the crates that have calls.
+-- Laws of limits (`Tests`) and of answers, for the crates that have calls.
+pub mod Tests
 pub mod Answer

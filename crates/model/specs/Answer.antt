@@ -1,8 +1,8 @@
 -- The answer of a call in the paper's numbers, and how a call comes to refuse.
-use mathlib.Core.Bool.{Bool, _||_, cond}
+use mathlib.Core.Bool.{Bool, cond}
 use mathlib.Core.List.{List, [], _∷_}
 use Prim.Native.Nat.{ℕ}
-use lib.Dec.{eqb, ltb}
+use lib.Dec.{eqb}
 
 -- the number of a refusal and its place; the number 0 stands for an acceptance
 pub record Answer : Type 0 where
@@ -31,7 +31,3 @@ condition holds number place = record { holds = holds; number = number; place = 
 unfoldable pub firstOf : List Condition → Answer
 firstOf [] = accepted
 firstOf (c ∷ cs) = cond (c .holds) (refused (c .number) (c .place)) (firstOf cs)
-
--- a condition that many lists have: n is not from least to most
-abbrev pub outside : ℕ → ℕ → ℕ → Bool
-outside least most n = ltb n least || ltb most n

@@ -1,8 +1,6 @@
-// What a job is made of, and the test of a limit. The numbers may have any content: the curve call refuses what lies outside the paper's
-// limits.
+// What a job is made of. The numbers may have any content: the curve call refuses what lies outside the paper's limits.
 
-ghost use mathlib.Core.Path.{_≡_};
-ghost use Rattle.model.specs.Answer.{outside};
+pub mod limits; // limits.rt: the limits, and their tests
 
 // The law of the number of claims: order k, divisor D, and the terms A_1..A_4 and B_1..B_4, of which those past k are zero.
 pub struct Law {
@@ -23,11 +21,4 @@ pub struct Job {
     pub law: Law,
     pub start: Start,
     pub last: u64,
-}
-
-// Whether `n` is not from `least` to `most`, a condition of several calls' lists.
-pub fn is_outside(least: u64, most: u64, n: u64) -> bool
-    ensures { λ r. ⌜ r ≡ outside least most n ⌝ }
-{
-    n < least || most < n
 }

@@ -11,9 +11,8 @@ use lib.Signed.{ltZ, _≤ℤ_, ltZ-no}
 use lib.ListN.{length, getD}
 use Rattle.algebra.proofs.Or.{or-left, or-right}
 use Rattle.algebra.proofs.Smallest.{smallest-finds}
-use Rattle.model.specs.Answer.{outside}
-use Rattle.model.proofs.Answer.{within}
-use Rattle.enclosure.specs.Entry.{unit, beyond}
+use Rattle.model.specs.Limits.{outside, unit, beyond}
+use Rattle.model.proofs.Tests.{within}
 use Rattle.quantile.specs.Call.{wrongLengths, wrongEntry, wrongAt, firstWrong}
 use Rattle.quantile.specs.Room.{Summable}
 

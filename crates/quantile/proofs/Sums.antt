@@ -10,7 +10,7 @@ use mir.Val.{SFits}
 use Rattle.algebra.specs.Sum.{sumℤ}
 use Rattle.algebra.proofs.Natural.{sumℕ-most}
 use Rattle.algebra.proofs.Size.{size-sum, size-fits}
-use Rattle.enclosure.specs.Entry.{unit}
+use Rattle.model.specs.Limits.{unit}
 use Rattle.quantile.specs.Room.{Summable}
 
 -- the sum of a row's entries before total n

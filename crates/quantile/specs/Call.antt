@@ -8,8 +8,8 @@ use lib.Signed.{leZ, ltZ}
 use lib.ListN.{length, getD}
 use Rattle.algebra.specs.Smallest.{smallest}
 use Rattle.algebra.specs.Sum.{sumℤ}
-use Rattle.model.specs.Answer.{Answer, Condition, accepted, refused, isAccepted, condition, firstOf, outside}
-use Rattle.enclosure.specs.Entry.{unit, beyond}
+use Rattle.model.specs.Answer.{Answer, Condition, accepted, refused, isAccepted, condition, firstOf}
+use Rattle.model.specs.Limits.{outside, unit, beyond}
 use Rattle.quantile.specs.declared.Reason.{Reason}
 use Rattle.quantile.specs.declared.Reason.the-variants.{Rows, Level, Entry, Unreached}
 use Rattle.quantile.specs.declared.QuantileAnswer.{QuantileAnswer}

@@ -3,7 +3,7 @@ use mathlib.Core.List.{List}
 use Prim.Native.Nat.{ℕ, _*_, _≤_, _<_}
 use lib.IntN.{ℤ, pos, natAbs}
 use lib.ListN.{length, getD}
-use Rattle.enclosure.specs.Entry.{unit}
+use Rattle.model.specs.Limits.{unit}
 
 pub record Summable (row : List ℤ) : Type 0 where
   pub short : length row ≤ 501

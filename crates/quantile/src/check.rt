@@ -1,8 +1,8 @@
 // Refusals 31 to 33: the rows' lengths, the level, the entries.
 
-use enclosure::rule::UNIT;
-use enclosure::rule::is_either_beyond;
-use model::is_outside;
+use model::limits::UNIT;
+use model::limits::is_either_beyond;
+use model::limits::is_outside;
 ghost use mathlib.Core.Path.{_≡_};
 ghost use lib.ListN.{length};
 ghost use Rattle.quantile.specs.Call.{wrongLengths, wrongLevel, wrongEntry, firstWrong};

@@ -17,8 +17,10 @@ use Rattle.algebra.specs.Table.{sameList}
 use Rattle.model.specs.declared.Law.{Law}
 use Rattle.model.specs.declared.Start.{Start}
 use Rattle.model.specs.declared.Job.{Job}
-use Rattle.model.specs.Answer.{Answer, accepted, refused, isAccepted, outside}
-use Rattle.model.proofs.Answer.{first-none, by-first, within}
+use Rattle.model.specs.Answer.{Answer, accepted, refused, isAccepted}
+use Rattle.model.specs.Limits.{outside}
+use Rattle.model.proofs.Answer.{first-none, by-first}
+use Rattle.model.proofs.Tests.{within}
 use Rattle.text.specs.Bytes.{lineEnd}
 use Rattle.text.specs.Lines.{before, after, has, words, spaced}
 use Rattle.text.specs.Numbers.{decimal}
@@ -26,7 +28,8 @@ use Rattle.text.specs.Output.{lineText}
 use Rattle.text.proofs.Decimal.{digits-length, decimal-length, decimal-short}
 use Rattle.sheet.specs.Sheet.{LAW, TERM, START, LAST, SEVERITY, W}
 use Rattle.sheet.specs.Line.{faulty, allNumbers, ofNumbers, ofWords, line}
-use Rattle.sheet.specs.Reading.{Reading, reads, refuses, on, signed, whole, noTerms, withTerm, startOf, jobOf}
+use Rattle.sheet.specs.Reading.{Reading, reads, refuses, on, signed, whole, noTerms, withTerm}
+use Rattle.model.specs.Job.{startOf, jobOf}
 use Rattle.sheet.specs.Reading.{weightLines, severityLine, lastLine, startLine, termLines, lawLine, reading}
 use Rattle.enclosure.specs.declared.Entry.{Entry}
 use Rattle.enclosure.specs.Term.{entryOf, Small}

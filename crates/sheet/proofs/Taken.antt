@@ -16,8 +16,8 @@ use Rattle.algebra.specs.Table.{sameList}
 use Rattle.model.specs.declared.Law.{Law}
 use Rattle.model.specs.declared.Start.{Start}
 use Rattle.model.specs.declared.Job.{Job}
-use Rattle.model.specs.Answer.{outside}
-use Rattle.model.proofs.Answer.{within}
+use Rattle.model.specs.Limits.{outside}
+use Rattle.model.proofs.Tests.{within}
 use Rattle.text.specs.Bytes.{lineEnd}
 use Rattle.text.specs.Lines.{after, afterLines, lineAt}
 use Rattle.text.specs.Numbers.{AtMostTenDigits}
@@ -25,7 +25,8 @@ use Rattle.text.specs.Output.{lineText}
 use Rattle.text.proofs.Scan.{lines-last}
 use Rattle.sheet.specs.Sheet.{LAW, TERM, START, LAST, SEVERITY, W, termsText, weightsText, sheetText}
 use Rattle.sheet.specs.Line.{Line, numbers, faulty, line}
-use Rattle.sheet.specs.Reading.{Reading, reads, refuses, on, signed, whole, noTerms, withTerm, startOf, jobOf, sheetOf}
+use Rattle.sheet.specs.Reading.{Reading, reads, refuses, on, signed, whole, noTerms, withTerm, sheetOf}
+use Rattle.model.specs.Job.{startOf, jobOf}
 use Rattle.sheet.specs.Reading.{weightLines, severityLine, lastLine, startLine, termLines, lawLine, reading}
 use Rattle.sheet.specs.Call.{told, numberWords, signsOn, faultOn}
 use Rattle.sheet.specs.Accepts.{Terms, Writable, FirstFaulty, TakesOnlyTexts, HandsBackFirstFaulty}

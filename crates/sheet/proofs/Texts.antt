@@ -11,7 +11,7 @@ use lib.IntN.{ℤ, pos}
 use lib.ListN.{length, getD, set, replicate, length-append}
 use Rattle.model.specs.declared.Law.{Law}
 use Rattle.model.specs.declared.Job.{Job}
-use Rattle.model.proofs.Answer.{inside}
+use Rattle.model.proofs.Tests.{inside}
 use Rattle.text.specs.Lines.{has}
 use Rattle.text.specs.Numbers.{AtMostTenDigits}
 use Rattle.text.specs.Output.{lineText}

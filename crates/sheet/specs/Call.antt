@@ -20,7 +20,8 @@ use Rattle.sheet.specs.declared.LineAnswer.the-variants.{Accepted, Refus
 use Rattle.sheet.specs.declared.SheetRead.{SheetRead}
 use Rattle.sheet.specs.declared.Part.{Part}
 use Rattle.sheet.specs.Sheet.{TERM}
-use Rattle.sheet.specs.Reading.{Reading, reads, refuses, noTerms, startOf, jobOf, reading}
+use Rattle.sheet.specs.Reading.{Reading, reads, refuses, noTerms, reading}
+use Rattle.model.specs.Job.{startOf, jobOf}
 
 -- ---- the answer
 abbrev pub numberOf : Reason → ℕ

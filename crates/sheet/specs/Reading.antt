@@ -10,7 +10,8 @@ use lib.ListN.{length, getD, set, replicate}
 use Rattle.model.specs.declared.Law.{Law}
 use Rattle.model.specs.declared.Start.{Start}
 use Rattle.model.specs.declared.Job.{Job}
-use Rattle.model.specs.Answer.{outside}
+use Rattle.model.specs.Job.{lawOf, startOf, jobOf}
+use Rattle.model.specs.Limits.{mostOrder, mostSeverities, outside}
 use Rattle.sheet.specs.Sheet.{Sheet, LAW, TERM, START, LAST, SEVERITY, W}
 use Rattle.sheet.specs.Line.{Line, numbers, faulty, line}
 
@@ -33,16 +34,10 @@ whole zs i = natAbs (signed zs i)
 
 -- ---- what is known of a job as lines are read
 abbrev pub noTerms : ℕ → ℕ → Law
-noTerms order divisor = record { order = order; divisor = divisor; a = replicate 4 (pos 0); b = replicate 4 (pos 0) }
+noTerms order divisor = lawOf order divisor (replicate mostOrder (pos 0)) (replicate mostOrder (pos 0))
 
 abbrev pub withTerm : Law → ℕ → ℤ → ℤ → Law
-withTerm law i a b = record { order = law .order; divisor = law .divisor; a = set (law .a) i a; b = set (law .b) i b }
-
-abbrev pub startOf : ℕ → ℕ → Start
-startOf low high = record { low = low; high = high }
-
-abbrev pub jobOf : Law → Start → ℕ → Job
-jobOf law start last = record { law = law; start = start; last = last }
+withTerm law i a b = lawOf (law .order) (law .divisor) (set (law .a) i a) (set (law .b) i b)
 
 abbrev pub sheetOf : Job → List ℕ → Sheet
 sheetOf job weights = record { job = job; weights = weights }
@@ -59,7 +54,7 @@ weightLines job ws (suc due) n s =
 unfoldable pub severityLine : ℕ → Job → ℕ → List ℕ → Reading
 severityLine places job n s =
     on (line false SEVERITY 1 s) n
-    (λ zs rest. cond (outside 1 500 (whole zs 0)) (refuses 25 n)
+    (λ zs rest. cond (outside 1 mostSeverities (whole zs 0)) (refuses 25 n)
     (cond (ltb places (whole zs 0)) (refuses 27 n)
     (weightLines job [] (whole zs 0) (n + 1) rest)))
 
@@ -81,7 +76,7 @@ termLines places law i (suc due) s =
 unfoldable pub lawLine : ℕ → List ℕ → Reading
 lawLine places s =
     on (line false LAW 2 s) 1
-    (λ zs rest. cond (outside 1 4 (whole zs 0)) (refuses 25 1)
+    (λ zs rest. cond (outside 1 mostOrder (whole zs 0)) (refuses 25 1)
     (termLines places (noTerms (whole zs 0) (whole zs 1)) 0 (whole zs 0) rest))
 
 -- the whole sheet

@@ -14,7 +14,7 @@ use super::line::whole;
 use model::Job;
 use model::Law;
 use model::Start;
-use model::is_outside;
+use model::limits::is_outside;
 ghost use mathlib.Core.Path.{_≡_};
 ghost use mathlib.Core.List.{List, []};
 ghost use Prim.Native.Nat.{ℕ, _≤_};

@@ -7,9 +7,11 @@ use mathlib.Core.List.{List, []}
 use Prim.Native.Nat.{ℕ}
 use native.Mathlib.Omega.{arith}
 use lib.ListN.{drop}
-use Rattle.exact.specs.Severity.{totalWeight}
-use Rattle.model.specs.Answer.{Answer, Condition, refused, isAccepted, firstOf, outside}
-use Rattle.model.proofs.Answer.{first-none, first-holds, first-fails, within}
+use Rattle.model.specs.Table.{totalWeight}
+use Rattle.model.specs.Answer.{Answer, Condition, refused, isAccepted, firstOf}
+use Rattle.model.specs.Limits.{outside}
+use Rattle.model.proofs.Answer.{first-none, first-holds, first-fails}
+use Rattle.model.proofs.Tests.{within}
 use Rattle.compound.specs.declared.Reason.{Reason}
 use Rattle.compound.specs.declared.check.Checked.{Checked}
 use Rattle.compound.specs.Call.{numberOf, paper, checks}

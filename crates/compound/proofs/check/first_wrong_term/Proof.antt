@@ -12,7 +12,7 @@ use mir.Val.{SFits}
 use mir.Facts.{toZ-ofZ}
 use Rattle.algebra.specs.Smallest.{FailBelow}
 use Rattle.algebra.proofs.Smallest.{smallest-is, smallest-none}
-use Rattle.enclosure.specs.Entry.{beyond}
+use Rattle.model.specs.Limits.{beyond}
 use Rattle.compound.specs.Call.{termLimit, wrongTerm}
 use Rattle.compound.proofs.check.first_wrong_term.Statement.{statement}
 use Rattle.compound.proofs.check.first_wrong_term.Tie as tie

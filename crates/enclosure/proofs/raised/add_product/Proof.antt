@@ -8,7 +8,7 @@ use mir.Syntax.{w64}
 use mir.Val.{SFits, toZ, ofZ}
 use mir.Facts.{toZ-ofZ}
 use Rattle.algebra.proofs.Size.{size-fits}
-use Rattle.enclosure.specs.Entry.{unit}
+use Rattle.model.specs.Limits.{unit}
 use Rattle.enclosure.specs.Run.{raised}
 use Rattle.enclosure.proofs.Lowered.{raised-nonneg, raised-size}
 use Rattle.enclosure.proofs.raised.add_product.Statement.{statement}

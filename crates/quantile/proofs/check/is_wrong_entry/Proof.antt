@@ -5,7 +5,7 @@ use mathlib.Core.Bool.{_||_}
 use Prim.Native.Nat.{_*_}
 use mir.Facts.{toZ-ofZ}
 use Rattle.algebra.proofs.Or.{or-yes, or-no}
-use Rattle.enclosure.specs.Entry.{unit, beyond}
+use Rattle.model.specs.Limits.{unit, beyond}
 use Rattle.quantile.proofs.check.is_wrong_entry.Statement.{statement}
 use Rattle.quantile.proofs.check.is_wrong_entry.Tie as tie
 

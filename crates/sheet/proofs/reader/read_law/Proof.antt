@@ -5,8 +5,8 @@ use mathlib.Core.Bool.{false}
 use mathlib.Core.List.{List}
 use Prim.Native.Nat.{ℕ}
 use lib.IntN.{natAbs}
-use Rattle.model.specs.Answer.{outside}
-use Rattle.model.proofs.Answer.{within}
+use Rattle.model.specs.Limits.{outside}
+use Rattle.model.proofs.Tests.{within}
 use Rattle.sheet.specs.Sheet.{LAW}
 use Rattle.sheet.specs.Reading.{lawLine}
 use Rattle.sheet.proofs.Steps.{GoodLine, good-line, faulty-line}

@@ -7,8 +7,8 @@ use Prim.Native.Nat.{ℕ}
 use native.Mathlib.Omega.{arith}
 use borrow.Author.Tests.{lt-ltb, le-ltb}
 use lib.IntN.{natAbs}
-use Rattle.model.specs.Answer.{outside}
-use Rattle.model.proofs.Answer.{within}
+use Rattle.model.specs.Limits.{outside}
+use Rattle.model.proofs.Tests.{within}
 use Rattle.sheet.specs.Sheet.{SEVERITY}
 use Rattle.sheet.specs.Reading.{severityLine}
 use Rattle.sheet.proofs.Steps.{GoodLine, good-line, faulty-line}

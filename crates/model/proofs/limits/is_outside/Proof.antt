@@ -1,7 +1,7 @@
 -- By the first test: where it fails, the second is the answer.
 use borrow.Author.Tests.{lt-ltb, le-ltb}
-use Rattle.model.proofs.is_outside.Statement.{statement}
-use Rattle.model.proofs.is_outside.Tie as tie
+use Rattle.model.proofs.limits.is_outside.Statement.{statement}
+use Rattle.model.proofs.limits.is_outside.Tie as tie
 
 returns : tie.Need-returns
 returns c = simp (lt-ltb _ _ (c .if1 .taken))

@@ -1,0 +1,19 @@
+-- A job made of its numbers, by the one function that definitions make it with.
+use mathlib.Core.List.{List}
+use Prim.Native.Nat.{ℕ}
+use lib.IntN.{ℤ}
+use Rattle.model.specs.declared.Law.{Law}
+use Rattle.model.specs.declared.Start.{Start}
+use Rattle.model.specs.declared.Job.{Job}
+
+-- k, D, A_1..A_4 and B_1..B_4
+abbrev pub lawOf : ℕ → ℕ → List ℤ → List ℤ → Law
+lawOf order divisor a b = record { order = order; divisor = divisor; a = a; b = b }
+
+-- s and t
+abbrev pub startOf : ℕ → ℕ → Start
+startOf low high = record { low = low; high = high }
+
+-- with X
+abbrev pub jobOf : Law → Start → ℕ → Job
+jobOf law start last = record { law = law; start = start; last = last }
