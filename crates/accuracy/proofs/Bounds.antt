@@ -10,11 +10,11 @@ use Rattle.model.specs.declared.Job.{Job}
 use Rattle.model.specs.Job.{jobOf}
 use Rattle.enclosure.specs.declared.Entry.{Entry}
 use Rattle.enclosure.specs.Entry.{none, plus, scaled, allowance, rounded}
-use Rattle.compound.specs.Curve.{factor, firstEntry, sumsZero, sumsNext, entryAt, curveRows}
-use Rattle.compound.proofs.Recursion.{curve-rule}
+use Rattle.rows.specs.Curve.{factor, firstEntry, sumsZero, sumsNext, entryAt, curveRows}
+use Rattle.rows.proofs.Recursion.{curve-rule}
 use Rattle.exact.specs.JobAmount.{Divisible}
 use Rattle.accuracy.specs.Accuracy.{gap}
-use Rattle.compound.proofs.Preserved.{Preserved, Follows, all-preserved}
+use Rattle.rows.proofs.Preserved.{Preserved, Follows, divisors-pos, all-preserved}
 
 abbrev pub SameBound : Entry → Entry → Type 0
 SameBound e f = e .bound ≡ f .bound
@@ -59,4 +59,5 @@ module _ (job job′ : Job) (weights : List ℕ) (same-gap : gap (job .start) �
   pub bounds : Divisible job weights → job .law ≡ job′ .law → (x j : ℕ) → j < job .law .order
       → SameBound (curveRows job weights j x) (curveRows job′ weights j x)
   bounds h same-law x j l = subst (λ law. SameBound (curveRows job weights j x) (curveRows (second law) weights j x)) same-law
-      (all-preserved same-bound job weights (h .divisor-pos) (h .total-pos) (curveRows (second (job .law)) weights) second-follows x j l)
+      (all-preserved same-bound job weights (divisors-pos (job .law) weights (h .divisor-pos) (h .total-pos))
+      (curveRows (second (job .law)) weights) second-follows x j l)

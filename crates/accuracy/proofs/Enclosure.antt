@@ -22,9 +22,9 @@ use Rattle.outward.proofs.Division.{floor-is, ceil-is}
 use Rattle.model.specs.declared.Job.{Job}
 use Rattle.enclosure.specs.declared.Entry.{Entry}
 use Rattle.enclosure.specs.Entry.{none, plus, scaled, rounded}
-use Rattle.compound.specs.Curve.{factor, firstEntry, curveRows}
+use Rattle.rows.specs.Curve.{factor, divisorZero, firstEntry, curveRows}
 use Rattle.exact.specs.JobAmount.{Divisible, frequency, severity, amount}
-use Rattle.compound.proofs.Preserved.{Preserved, Follows, all-preserved}
+use Rattle.rows.proofs.Preserved.{Preserved, Follows, divisors-pos, all-preserved}
 open OrderedRing order using (_⊑_)
 open Semiring ℚ using (carrier as A, 𝟘, _⊹_, _·_)
 
@@ -121,7 +121,7 @@ module _ (job : Job) (weights : List ℕ) (h : Divisible job weights) (p : Fract
   first-within (suc j) = rw first-further within-none
 
   exact-follows : Follows enclosing job weights (valueRow law table p)
-  unfolding factor exactFactor int
+  unfolding factor divisorZero exactFactor int
   exact-follows = record {
     first = λ j _. first-within j;
     row-zero = λ x _. recursion-value law table p (suc x);
@@ -130,7 +130,8 @@ module _ (job : Job) (weights : List ℕ) (h : Divisible job weights) (p : Fract
 
   -- the rows 0 to k - 1
   enclosed : (x j : ℕ) → j < job .law .order → Within (curveRows job weights j x) (valueRow law table p j x)
-  enclosed = all-preserved enclosing job weights (h .divisor-pos) (h .total-pos) (valueRow law table p) exact-follows
+  enclosed = all-preserved enclosing job weights (divisors-pos (job .law) weights (h .divisor-pos) (h .total-pos)) (valueRow law table p)
+      exact-follows
 
   pub amount-enclosed : 0 < job .law .order → (x : ℕ) → Between (curveRows job weights 0 x) (amount job weights h p x)
   amount-enclosed l x = of-within (curveRows job weights 0 x) (amount job weights h p x) (rw value-amount (enclosed x 0 l))

@@ -11,9 +11,9 @@ use Rattle.outward.proofs.Division.{floor-is, ceil-is}
 use Rattle.model.specs.declared.Job.{Job}
 use Rattle.enclosure.specs.declared.Entry.{Entry}
 use Rattle.enclosure.specs.Entry.{plus, scaled, allowance, rounded}
-use Rattle.compound.specs.Curve.{firstEntry, curveRows}
+use Rattle.rows.specs.Curve.{firstEntry, curveRows}
 use Rattle.exact.specs.JobAmount.{Divisible}
-use Rattle.compound.proofs.Preserved.{PreservedAlone, all-entries}
+use Rattle.rows.proofs.Preserved.{PreservedAlone, divisors-pos, all-entries}
 
 abbrev pub Narrow : Entry → Type 0
 Narrow e = (e .high -ℤ e .low) ≤ℤ e .bound
@@ -93,4 +93,4 @@ module _ (job : Job) (weights : List ℕ) where
   narrow-first (suc j) = ≤ℤ-refl (pos 0)
 
   pub narrow : Divisible job weights → (x j : ℕ) → j < job .law .order → Narrow (curveRows job weights j x)
-  narrow h = all-entries narrowing job weights (h .divisor-pos) (h .total-pos) narrow-first
+  narrow h = all-entries narrowing job weights (divisors-pos (job .law) weights (h .divisor-pos) (h .total-pos)) narrow-first

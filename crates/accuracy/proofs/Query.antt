@@ -18,7 +18,8 @@ use Rattle.algebra.proofs.Value.{≼-refl, ≼-trans, whole-mono, le-of-whole}
 use Rattle.model.specs.declared.Job.{Job}
 use Rattle.model.specs.Answer.{condition, firstOf}
 use Rattle.model.proofs.Tests.{inside}
-use Rattle.compound.specs.Call.{Lent, curveLent}
+use Rattle.rows.specs.Layout.{Lent}
+use Rattle.compound.specs.Call.{curveLent}
 use Rattle.compound.proofs.Accepted.{limits, entry-small, lows-long, highs-long}
 use Rattle.quantile.specs.Call.{wrongLengths, wrongLevel, wrongAt, firstWrong, unreached, quantiles}
 use Rattle.quantile.specs.Enclosed.{Enclose}

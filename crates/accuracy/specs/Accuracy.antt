@@ -12,8 +12,9 @@ use Rattle.model.specs.declared.Job.{Job}
 use Rattle.model.specs.Answer.{accepted}
 use Rattle.exact.specs.JobAmount.{Divisible, amount}
 use Rattle.enclosure.specs.declared.Entry.{Entry}
-use Rattle.compound.specs.Curve.{curveRows}
-use Rattle.compound.specs.Call.{Lent, curveAnswer, curveLent}
+use Rattle.rows.specs.Curve.{curveRows}
+use Rattle.rows.specs.Layout.{Lent}
+use Rattle.compound.specs.Call.{curveAnswer, curveLent}
 
 -- ---- the call
 -- "A job is accepted when, with the rows lent to the curve call, no condition of that call's list holds."

@@ -7,7 +7,8 @@ use lib.ListN.{take}
 use Rattle.algebra.specs.Fraction.{Fraction, whole, _≼_}
 use Rattle.model.specs.declared.Job.{Job}
 use Rattle.model.specs.Answer.{condition, firstOf}
-use Rattle.compound.specs.Call.{Lent, curveLent}
+use Rattle.rows.specs.Layout.{Lent}
+use Rattle.compound.specs.Call.{curveLent}
 use Rattle.quantile.specs.Call.{wrongLevel, unreached, quantiles}
 use Rattle.quantile.specs.Enclosed.{QuantileFrom, Enclose, Accepted as QueryAccepted}
 use Rattle.accuracy.specs.Accuracy.{Accepted}

@@ -14,8 +14,10 @@ use Rattle.algebra.proofs.Table.{and-left, and-right, each-passes, same-integer
 use Rattle.outward.specs.Division.{floorDiv, ceilDiv}
 use Rattle.model.specs.Answer.{Answer, refused, firstOf}
 use Rattle.enclosure.specs.Entry.{scaled, rounded}
-use Rattle.compound.specs.Curve.{factor, sumsZero, sumsNext, entryAt, withNext, history, curveRows}
-use Rattle.compound.specs.Call.{Lent, lentRows, firstFault, curveAnswer, rowAfter, curveLent}
+use Rattle.rows.specs.Curve.{factor, sumsZero, sumsNext, entryAt, withNext, history, curveRows}
+use Rattle.rows.specs.Layout.{Lent, lentRows}
+use Rattle.rows.specs.Faults.{firstFault}
+use Rattle.compound.specs.Call.{curveAnswer, rowAfter, curveLent}
 use Rattle.quantile.specs.Call.{Quantiles, quantileOf, quantiles}
 use Rattle.text.specs.Bytes.{ascii}
 use Rattle.text.specs.Lines.{before, after, has, afterLines, longer, words, spaced}

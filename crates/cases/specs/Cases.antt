@@ -14,7 +14,8 @@ use Rattle.model.specs.declared.Start.{Start}
 use Rattle.model.specs.declared.Job.{Job}
 use Rattle.model.specs.Job.{lawOf, startOf, jobOf}
 use Rattle.model.specs.Answer.{Answer, accepted, refused}
-use Rattle.compound.specs.Call.{Lent, lentRows, curveAnswer, curveLent}
+use Rattle.rows.specs.Layout.{Lent, lentRows}
+use Rattle.compound.specs.Call.{curveAnswer, curveLent}
 use Rattle.quantile.specs.Call.{Quantiles, quantiles}
 use Rattle.text.specs.Bytes.{ascii}
 use Rattle.sheet.specs.Reading.{reading}

@@ -18,11 +18,13 @@ use Rattle.model.specs.Answer.{accepted, firstOf}
 use Rattle.model.proofs.Answer.{passed as condition-passed, first-passed}
 use Rattle.enclosure.specs.declared.Entry.{Entry}
 use Rattle.enclosure.specs.Term.{entryOf, Small}
-use Rattle.compound.specs.Curve.{curveRows}
-use Rattle.compound.specs.Call.{Lent, checks, faultAt, firstFault, faults, curveAnswer, rowAfter, ran, curveLent}
-use Rattle.compound.specs.Room.{Limits, LongEnough}
+use Rattle.rows.specs.Curve.{curveRows}
+use Rattle.rows.specs.Layout.{Lent, LongEnough}
+use Rattle.compound.specs.Call.{checks, faults, curveAnswer, rowAfter, ran, curveLent}
+use Rattle.rows.specs.Faults.{faultAt, firstFault}
+use Rattle.rows.specs.Limits.{Limits}
 use Rattle.compound.proofs.Call.{checked-limits}
-use Rattle.compound.proofs.Filled.{small}
+use Rattle.rows.proofs.Filled.{small}
 
 module _ (job : Job) (weights : List ℕ) (lent : Lent) (ok : curveAnswer job weights lent ≡ accepted) where
   passed : Limits job weights × LongEnough (job .last + 1) lent × (firstOf (faults job weights) ≡ accepted)

@@ -17,8 +17,9 @@ use Rattle.model.specs.Answer.{Condition, accepted, firstOf}
 use Rattle.model.proofs.Answer.{passed}
 use Rattle.model.proofs.Tests.{within}
 use Rattle.model.specs.Limits.{unit, beyond}
-use Rattle.compound.specs.Call.{Lent, termLimit, wrongTerm, shorter, workPlaces, tooShort, checks}
-use Rattle.compound.specs.Room.{Limits, LongEnough}
+use Rattle.rows.specs.Layout.{Lent, workPlaces, LongEnough}
+use Rattle.compound.specs.Call.{termLimit, wrongTerm, shorter, tooShort, checks}
+use Rattle.rows.specs.Limits.{Limits}
 
 -- ---- checks 1 to 8
 limit-most : (t : Bool) → cond t 1000 0 ≤ 1000

@@ -1,14 +1,5 @@
--- Proofs that the functions of the crate share, bottom up: the checks; the rule and what it preserves; the rows where they lie, the sums of
--- a total, totals one after the other; what the call returns, and what an acceptance says.
+-- Proofs that the functions of the crate share, bottom up: the checks, what the call returns, and what an acceptance says.
 pub mod Tests
 pub mod Call
-pub mod Recursion
-pub mod Preserved
-pub mod Nonnegative
-pub mod Kept
-pub mod Stored
-pub mod Sums
-pub mod Advanced
-pub mod Filled
 pub mod Returned
 pub mod Accepted

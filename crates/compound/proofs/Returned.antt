@@ -1,25 +1,30 @@
 -- What the call returns, by how far it came: refused by the checks, refused at a total, or accepted.
 use mathlib.Core.Path.{_≡_, refl, sym, ap, _∙_}
 use mathlib.Core.Bool.{Bool, true, false, cond, true≢false}
-use mathlib.Core.List.{List}
+use mathlib.Core.List.{List, []}
 use Prim.Native.Nat.{ℕ, _+_, _≤_, _<_}
+use native.Mathlib.Nat.{lt-of-lt-of-le}
+use borrow.Author.Tests.{lt-ltb, le-ltb}
 use lib.Dec.{eqb}
 use lib.IntN.{ℤ, pos}
 use lib.ListN.{length, getD, replicate, length-replicate}
 use Rattle.algebra.specs.Slice.{listed, written}
 use Rattle.model.specs.declared.Job.{Job}
-use Rattle.model.specs.Answer.{Answer, accepted, isAccepted, firstOf}
-use Rattle.model.proofs.Answer.{first-append}
+use Rattle.model.specs.Answer.{Answer, accepted, refused, isAccepted, firstOf}
+use Rattle.model.proofs.Answer.{first-none, first-holds, first-fails, first-append}
 use Rattle.enclosure.specs.declared.Entry.{Entry}
+use Rattle.enclosure.specs.Term.{entryOf}
+use Rattle.rows.specs.Curve.{curveRows}
+use Rattle.rows.specs.Faults.{firstFault, rangeFault}
+use Rattle.rows.specs.Layout.{Lent, lentRows, workPlaces, LongEnough}
+use Rattle.rows.specs.Progress.{Kept, Filled}
+use Rattle.rows.proofs.Kept.{kept-written, kept-listed}
+use Rattle.rows.proofs.Stored.{same-lent}
 use Rattle.compound.specs.declared.Reason.{Reason}
-use Rattle.compound.specs.declared.Reason.the-variants.{Order, Divisor, Term, Start, Severities, Weights, Last, Room, Range, Bound}
+use Rattle.compound.specs.declared.Reason.the-variants.{Order, Divisor, Term, Start, Severities, Weights, Last, Places, Range, Bound}
 use Rattle.compound.specs.declared.CurveAnswer.{CurveAnswer}
 use Rattle.compound.specs.declared.CurveAnswer.the-variants.{Accepted, Refused}
-use Rattle.compound.specs.Curve.{curveRows}
-use Rattle.compound.specs.Call.{numberOf, paper, Lent, lentRows, workPlaces, checks, faults, curveAnswer, rowAfter, ran, curveLent}
-use Rattle.compound.specs.Room.{LongEnough, Kept, Filled}
-use Rattle.compound.proofs.Kept.{kept-written, kept-listed}
-use Rattle.compound.proofs.Stored.{same-lent}
+use Rattle.compound.specs.Call.{numberOf, paper, checks, faults, curveAnswer, rowAfter, ran, curveLent}
 
 -- ---- answers of the code
 -- no reason has the acceptance's number
@@ -31,7 +36,7 @@ numbered Start = refl
 numbered Severities = refl
 numbered Weights = refl
 numbered Last = refl
-numbered Room = refl
+numbered Places = refl
 numbered Range = refl
 numbered Bound = refl
 
@@ -56,6 +61,31 @@ module _ (job : Job) (weights : List ℕ) (lent₀ : Lent) where
   row-after column b e =
       ap (λ (t : Bool). cond t (listed (λ z. column (curveRows job weights 0 z)) places) (replicate places (pos 0))) (sym e)
 
+  -- ---- the faults, by where the rows stopped
+  -- at a total
+  module _ (h : firstFault job weights < places) where
+    by-range : (range : Bool) → rangeFault job weights ≡ range
+        → firstOf (faults job weights) ≡ refused (cond range 9 10) (firstFault job weights)
+    by-range true e = first-holds _ _ e
+    by-range false e = first-fails _ _ e ∙ first-holds _ _ (lt-ltb _ _ h)
+
+    fault-found : firstOf (faults job weights) ≡ refused (cond (rangeFault job weights) 9 10) (firstFault job weights)
+    fault-found = by-range (rangeFault job weights) refl
+
+    no-acceptance : (range : Bool) → eqb (cond range 9 10) 0 ≡ false
+    no-acceptance true = refl
+    no-acceptance false = refl
+
+    fault-refuses : isAccepted (firstOf (faults job weights)) ≡ false
+    fault-refuses = ap isAccepted fault-found ∙ no-acceptance (rangeFault job weights)
+
+  -- at the end
+  none-found : places ≤ firstFault job weights → firstOf (faults job weights) ≡ accepted
+  unfolding rangeFault
+  none-found h =
+      let past = le-ltb (firstFault job weights) places h in
+      first-fails _ _ (rw past) ∙ first-fails _ [] past ∙ first-none
+
   -- ---- refused by the checks
   module _ (answer : Answer) (is : answer ≡ firstOf (checks job weights lent₀)) (refuses : isAccepted answer ≡ false) where
     early : isAccepted (firstOf (checks job weights lent₀)) ≡ false
@@ -74,8 +104,15 @@ module _ (job : Job) (weights : List ℕ) (lent₀ : Lent) where
     late : isAccepted (firstOf (checks job weights lent₀)) ≡ true
     late = ap isAccepted (sym passed)
 
-    pub late-answer : firstOf (faults job weights) ≡ curveAnswer job weights lent₀
+    late-answer : firstOf (faults job weights) ≡ curveAnswer job weights lent₀
     late-answer = sym (by-checks ∙ ap (λ (b : Bool). cond b (firstOf (faults job weights)) (firstOf (checks job weights lent₀))) late)
+
+    pub fault-answer : firstFault job weights < places
+        → refused (cond (rangeFault job weights) 9 10) (firstFault job weights) ≡ curveAnswer job weights lent₀
+    fault-answer h = sym (fault-found h) ∙ late-answer
+
+    pub end-answer : places ≤ firstFault job weights → accepted ≡ curveAnswer job weights lent₀
+    end-answer h = sym (none-found h) ∙ late-answer
 
     late-rows : ran job weights lent₀ ≡ curveLent job weights lent₀
     unfolding curveLent
@@ -90,30 +127,35 @@ module _ (job : Job) (weights : List ℕ) (lent₀ : Lent) where
       work-zeros = clear ∙ zeros _ _ (workPlaces places) (filled .kept .work)
 
       -- refused at a total: the rows were cleared
-      pub fault-rows : isAccepted (firstOf (faults job weights)) ≡ false → (low high bound : List ℤ)
-          → low ≡ written (replicate places (pos 0)) (lent .low) → high ≡ written (replicate places (pos 0)) (lent .high)
-          → bound ≡ written (replicate places (pos 0)) (lent .bound) → lentRows low high bound work ≡ curveLent job weights lent₀
-      fault-rows e low high bound p q r =
-          same-lent (p ∙ cleared (λ e. e .low) _ _ (filled .kept .low)) (q ∙ cleared (λ e. e .high) _ _ (filled .kept .high))
-          (r ∙ cleared (λ e. e .bound) _ _ (filled .kept .bound)) work-zeros
-          ∙ late-rows
-        where
-          cleared : (column : Entry → ℤ) (row row₀ : List ℤ) → Kept places row row₀
-              → written (replicate places (pos 0)) row ≡ written (rowAfter column job weights) row₀
-          cleared column row row₀ k = zeros row row₀ places k ∙ ap (λ (front : List ℤ). written front row₀) (row-after column false e)
+      module _ (h : firstFault job weights < places) where
+        cleared : (column : Entry → ℤ) (row row₀ : List ℤ) → Kept places row row₀
+            → written (replicate places (pos 0)) row ≡ written (rowAfter column job weights) row₀
+        cleared column row row₀ k =
+            zeros row row₀ places k ∙ ap (λ (front : List ℤ). written front row₀) (row-after column false (fault-refuses h))
+
+        pub fault-rows : (low high bound : List ℤ) → low ≡ written (replicate places (pos 0)) (lent .low)
+            → high ≡ written (replicate places (pos 0)) (lent .high) → bound ≡ written (replicate places (pos 0)) (lent .bound)
+            → lentRows low high bound work ≡ curveLent job weights lent₀
+        fault-rows low high bound p q r =
+            same-lent (p ∙ cleared (λ e. e .low) _ _ (filled .kept .low)) (q ∙ cleared (λ e. e .high) _ _ (filled .kept .high))
+            (r ∙ cleared (λ e. e .bound) _ _ (filled .kept .bound)) work-zeros
+            ∙ late-rows
 
       -- accepted: the rows hold row 0
-      pub end-rows : LongEnough places lent₀ → isAccepted (firstOf (faults job weights)) ≡ true
-          → lentRows (lent .low) (lent .high) (lent .bound) work ≡ curveLent job weights lent₀
-      end-rows long e =
-          same-lent (held (λ e. e .low) _ _ (long .low-long) (filled .kept .low) (λ z l. ap (λ (e : Entry). e .low) (filled .curve e z l)))
-          (held (λ e. e .high) _ _ (long .high-long) (filled .kept .high) (λ z l. ap (λ (e : Entry). e .high) (filled .curve e z l)))
-          (held (λ e. e .bound) _ _ (long .bound-long) (filled .kept .bound) (λ z l. ap (λ (e : Entry). e .bound) (filled .curve e z l)))
-          work-zeros
-          ∙ late-rows
-        where
-          held : (column : Entry → ℤ) (row row₀ : List ℤ) → places ≤ length row₀ → Kept places row row₀
-              → ((z : ℕ) → z < places → getD row z (pos 0) ≡ column (curveRows job weights 0 z))
-              → row ≡ written (rowAfter column job weights) row₀
-          held column row row₀ h k at = kept-listed (λ z. column (curveRows job weights 0 z)) row row₀ places h k at
-              ∙ ap (λ (front : List ℤ). written front row₀) (row-after column true e)
+      module _ (long : LongEnough places lent₀) (one : 1 ≤ job .law .order) (h : places ≤ firstFault job weights) where
+        shown : (z : ℕ) → z < places → entryOf (lent .low) (lent .high) (lent .bound) z ≡ curveRows job weights 0 z
+        shown z l = filled .entries 0 z one (lt-of-lt-of-le l h)
+
+        held : (column : Entry → ℤ) (row row₀ : List ℤ) → places ≤ length row₀ → Kept places row row₀
+            → ((z : ℕ) → z < places → getD row z (pos 0) ≡ column (curveRows job weights 0 z))
+            → row ≡ written (rowAfter column job weights) row₀
+        held column row row₀ enough k at = kept-listed (λ z. column (curveRows job weights 0 z)) row row₀ places enough k at
+            ∙ ap (λ (front : List ℤ). written front row₀) (row-after column true (ap isAccepted (none-found h)))
+
+        pub end-rows : lentRows (lent .low) (lent .high) (lent .bound) work ≡ curveLent job weights lent₀
+        end-rows =
+            same-lent (held (λ e. e .low) _ _ (long .low-long) (filled .kept .low) (λ z l. ap (λ (e : Entry). e .low) (shown z l)))
+            (held (λ e. e .high) _ _ (long .high-long) (filled .kept .high) (λ z l. ap (λ (e : Entry). e .high) (shown z l)))
+            (held (λ e. e .bound) _ _ (long .bound-long) (filled .kept .bound) (λ z l. ap (λ (e : Entry). e .bound) (shown z l)))
+            work-zeros
+            ∙ late-rows

@@ -1,27 +1,27 @@
 -- The curve call: "Takes the job, three lent rows (low, high, bound) and a work row."
-use mathlib.Core.Bool.{Bool, false, _&&_, _||_, cond}
+use mathlib.Core.Bool.{Bool, _||_, cond}
 use mathlib.Core.List.{List, [], _∷_, _++_}
-use Prim.Native.Nat.{ℕ, _+_, _*_}
+use Prim.Native.Nat.{ℕ, _+_}
 use lib.Dec.{ltb}
 use lib.IntN.{ℤ, pos}
 use lib.ListN.{length, getD, replicate}
 use Rattle.algebra.specs.Slice.{listed, written}
 use Rattle.algebra.specs.Smallest.{smallest}
-use Rattle.algebra.specs.Sum.{accumulate}
 use Rattle.model.specs.Table.{totalWeight}
 use Rattle.model.specs.declared.Law.{Law}
 use Rattle.model.specs.declared.Start.{Start}
 use Rattle.model.specs.declared.Job.{Job}
 use Rattle.model.specs.Answer.{Answer, Condition, accepted, refused, isAccepted, condition, firstOf}
-use Rattle.model.specs.Limits.{outside, unit, beyond}
+use Rattle.model.specs.Limits.{unit, mostOrder, mostSeverities, mostLast, outside, beyond}
 use Rattle.enclosure.specs.declared.Entry.{Entry}
 use Rattle.compound.specs.declared.Reason.{Reason}
 use Rattle.compound.specs.declared.Reason.the-variants.{Order, Divisor, Term, Start as StartReason, Severities, Weights, Last}
-use Rattle.compound.specs.declared.Reason.the-variants.{Room, Range, Bound}
+use Rattle.compound.specs.declared.Reason.the-variants.{Places, Range, Bound}
 use Rattle.compound.specs.declared.CurveAnswer.{CurveAnswer}
 use Rattle.compound.specs.declared.CurveAnswer.the-variants.{Accepted, Refused}
-use Rattle.enclosure.specs.Entry.{outOfRange, boundTooLarge}
-use Rattle.compound.specs.Curve.{Rows, curveRows}
+use Rattle.rows.specs.Curve.{curveRows}
+use Rattle.rows.specs.Faults.{firstFault, rangeFault}
+use Rattle.rows.specs.Layout.{Lent, workPlaces}
 
 -- ---- the answer
 abbrev pub numberOf : Reason → ℕ
@@ -32,7 +32,7 @@ numberOf StartReason = 4
 numberOf Severities = 5
 numberOf Weights = 6
 numberOf Last = 7
-numberOf Room = 8
+numberOf Places = 8
 numberOf Range = 9
 numberOf Bound = 10
 
@@ -40,16 +40,6 @@ numberOf Bound = 10
 abbrev pub paper : CurveAnswer → Answer
 paper Accepted = accepted
 paper (Refused reason place) = refused (numberOf reason) place
-
--- ---- the lent rows
-pub record Lent : Type 0 where
-  pub low : List ℤ
-  pub high : List ℤ
-  pub bound : List ℤ
-  pub work : List ℤ
-
-abbrev pub lentRows : List ℤ → List ℤ → List ℤ → List ℤ → Lent
-lentRows low high bound work = record { low = low; high = high; bound = bound; work = work }
 
 -- ---- "1, k; 2, D; 3, a term out of range, or past k and not zero (place: the smallest i); 4, start; 5, m; 6, W; 7, X; 8, a row below X+1
 -- places or the work row below 9 times (X+1)."
@@ -60,12 +50,13 @@ termLimit order i = cond (ltb i order) 1000 0
 abbrev pub wrongTerm : Law → ℕ → Bool
 wrongTerm law i = beyond (termLimit (law .order) i) (getD (law .a) i (pos 0)) || beyond (termLimit (law .order) i) (getD (law .b) i (pos 0))
 
+-- the smallest i, from 0, and 4 where no term is wrong
+abbrev pub firstWrongTerm : Law → ℕ
+firstWrongTerm law = smallest (wrongTerm law) mostOrder
+
 -- "0 ≤ s ≤ t ≤ U and t ≥ 1"
 abbrev pub wrongStart : Start → Bool
 wrongStart start = ltb (start .high) (start .low) || outside 1 unit (start .high)
-
-abbrev pub workPlaces : ℕ → ℕ
-workPlaces places = 9 * places
 
 abbrev pub shorter : ℕ → List ℤ → Bool
 shorter places row = ltb (length row) places
@@ -76,34 +67,21 @@ tooShort places lent = shorter places (lent .low) || shorter places (lent .high)
 
 abbrev pub checks : Job → List ℕ → Lent → List Condition
 checks job weights lent =
-    condition (outside 1 4 (job .law .order)) 1 0
+    condition (outside 1 mostOrder (job .law .order)) 1 0
     ∷ condition (outside 1 1000 (job .law .divisor)) 2 0
-    ∷ condition (ltb (smallest (wrongTerm (job .law)) 4) 4) 3 (smallest (wrongTerm (job .law)) 4 + 1)
+    ∷ condition (ltb (firstWrongTerm (job .law)) mostOrder) 3 (firstWrongTerm (job .law) + 1)
     ∷ condition (wrongStart (job .start)) 4 0
-    ∷ condition (outside 1 500 (length weights)) 5 0
+    ∷ condition (outside 1 mostSeverities (length weights)) 5 0
     ∷ condition (outside 1 1000 (totalWeight weights)) 6 0
-    ∷ condition (ltb 500 (job .last)) 7 0
+    ∷ condition (ltb mostLast (job .last)) 7 0
     ∷ condition (tooShort (job .last + 1) lent) 8 0
     ∷ []
 
 -- ---- "9: at the smallest x that has a fault, a low or high of any row lies outside -2U to 2U. 10: at that x none does, but a bound of any
 -- row is above U."
--- some of the rows 0 to k - 1 has the fault at total x
-abbrev pub anyRow : (Entry → Bool) → ℕ → Rows → ℕ → Bool
-anyRow fault order rows x = accumulate false _||_ order (λ j. fault (rows j x))
-
-abbrev pub faultAt : ℕ → Rows → ℕ → Bool
-faultAt order rows x = anyRow outOfRange order rows x || anyRow boundTooLarge order rows x
-
--- the smallest total with a fault, or X + 1 where no total has one
-unfoldable pub firstFault : Job → List ℕ → ℕ
-firstFault job weights = smallest (faultAt (job .law .order) (curveRows job weights)) (job .last + 1)
-
--- at that total; where 9 does not hold there, the fault is a bound's
 abbrev pub faults : Job → List ℕ → List Condition
 faults job weights =
-    condition (ltb (firstFault job weights) (job .last + 1)
-    && anyRow outOfRange (job .law .order) (curveRows job weights) (firstFault job weights)) 9 (firstFault job weights)
+    condition (rangeFault job weights) 9 (firstFault job weights)
     ∷ condition (ltb (firstFault job weights) (job .last + 1)) 10 (firstFault job weights)
     ∷ []
 

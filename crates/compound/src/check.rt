@@ -2,25 +2,26 @@
 
 use super::CurveAnswer;
 use super::Reason;
-use super::rows::WORK_COLUMNS;
 use model::Job;
 use model::Law;
 use model::Start;
+use model::limits::MOST_LAST;
+use model::limits::MOST_ORDER;
+use model::limits::MOST_SEVERITIES;
+use model::limits::UNIT;
 use model::limits::is_either_beyond;
 use model::limits::is_outside;
+use rows::layout::WORK_COLUMNS;
 ghost use mathlib.Core.Path.{_≡_};
 ghost use mathlib.Core.Bool.{true, _||_};
 ghost use Prim.Native.Nat.{_≤_, min};
 ghost use lib.IntN.{pos};
-ghost use Rattle.algebra.specs.Smallest.{smallest};
 ghost use Rattle.model.specs.Table.{totalWeight};
 ghost use Rattle.model.specs.Answer.{isAccepted, firstOf};
-ghost use Rattle.model.specs.Limits.{beyond};
-ghost use Rattle.compound.specs.Call.{termLimit, wrongTerm, wrongStart, tooShort, paper, checks, lentRows};
-ghost use Rattle.compound.specs.Room.{refusedBy};
-
-// U, which stands for chance 1.
-const UNIT: u64 = 1_000_000_000;
+ghost use Rattle.model.specs.Limits.{mostTotals, beyond};
+ghost use Rattle.compound.specs.Call.{termLimit, firstWrongTerm, wrongStart, tooShort, paper, checks};
+ghost use Rattle.rows.specs.Layout.{lentRows};
+ghost use Rattle.compound.specs.Checks.{refusedBy};
 
 // The largest sum of weights that is told apart: one more than a table may have.
 const WEIGHT_CAP: u64 = 1001;
@@ -46,7 +47,7 @@ fn is_wrong_term(order: u64, i: usize, a: i64, b: i64) -> bool
 
 // The first term that is wrong, from 0, and 4 where none is.
 fn first_wrong_term(law: Law) -> usize
-    ensures { λ r. ⌜ r ≡ smallest (wrongTerm law) 4 ⌝ }
+    ensures { λ r. ⌜ r ≡ firstWrongTerm law ⌝ }
 {
     let order = law.order;
     let a = law.a;
@@ -62,7 +63,7 @@ fn first_wrong_term(law: Law) -> usize
 fn is_wrong_start(start: Start) -> bool
     ensures { λ r. ⌜ r ≡ wrongStart start ⌝ }
 {
-    start.high < start.low || is_outside(1, UNIT, start.high)
+    start.high < start.low || is_outside(1, UNIT as u64, start.high)
 }
 
 // The sum of the weights, as far as the cap: it does not overflow whatever the weights are.
@@ -81,7 +82,7 @@ fn total_weight(weights: &[u64]) -> u64
 }
 
 fn is_too_short(places: usize, low: &[i64], high: &[i64], bound: &[i64], work: &[i64]) -> bool
-    requires { ⌜ places ≤ 501 ⌝ }
+    requires { ⌜ places ≤ mostTotals ⌝ }
     ensures { λ r. ⌜ r ≡ tooShort places (lentRows (now (low .entry)) (now (high .entry)) (now (bound .entry)) (now (work .entry))) ⌝ }
 {
     if low.len() < places {
@@ -119,7 +120,7 @@ pub fn check(
         (lentRows (now (low .entry)) (now (high .entry)) (now (bound .entry)) (now (work .entry)))) ⌝ }
     ensures total { λ r. ⌜ (isAccepted (paper (r .answer)) ≡ true → r .total ≡ totalWeight (now (weights .entry))) ⌝ }
 {
-    if is_outside(1, 4, job.law.order) {
+    if is_outside(1, MOST_ORDER, job.law.order) {
         return refused(Reason::Order, 0);
     }
     if is_outside(1, 1000, job.law.divisor) {
@@ -132,19 +133,19 @@ pub fn check(
     if is_wrong_start(job.start) {
         return refused(Reason::Start, 0);
     }
-    if is_outside(1, 500, weights.len() as u64) {
+    if is_outside(1, MOST_SEVERITIES as u64, weights.len() as u64) {
         return refused(Reason::Severities, 0);
     }
     let total = total_weight(weights);
     if is_outside(1, 1000, total) {
         return refused(Reason::Weights, 0);
     }
-    if 500 < job.last {
+    if (MOST_LAST as u64) < job.last {
         return refused(Reason::Last, 0);
     }
     let places = job.last as usize + 1;
     if is_too_short(places, low, high, bound, work) {
-        return refused(Reason::Room, 0);
+        return refused(Reason::Places, 0);
     }
     Checked {
         answer: CurveAnswer::Accepted,

@@ -1,15 +1,20 @@
 // The curve by the outward rule: every chance as a low and a high with a bound on their gap.
 
 mod check;
-mod fill;
-mod rows;
-mod total;
 
 use model::Job;
+use rows::fill::Stop;
+use rows::fill::fill;
+use rows::layout::WORK_COLUMNS;
 ghost use mathlib.Core.Path.{_≡_};
-ghost use mathlib.Core.Bool.{not};
-ghost use Rattle.model.specs.Answer.{isAccepted};
-ghost use Rattle.compound.specs.Call.{numberOf, lentRows, paper, curveAnswer, curveLent};
+ghost use mathlib.Core.Bool.{not, cond};
+ghost use Prim.Native.Nat.{_≤_};
+ghost use lib.IntN.{pos};
+ghost use lib.ListN.{length, replicate};
+ghost use Rattle.algebra.specs.Slice.{written};
+ghost use Rattle.model.specs.Answer.{refused, isAccepted};
+ghost use Rattle.compound.specs.Call.{numberOf, paper, curveAnswer, curveLent};
+ghost use Rattle.rows.specs.Layout.{lentRows};
 
 // Why the curve call refuses.
 pub enum Reason {
@@ -20,7 +25,7 @@ pub enum Reason {
     Severities,
     Weights,
     Last,
-    Room,
+    Places,
     Range,
     Bound,
 }
@@ -43,7 +48,7 @@ pub fn reason_number(reason: Reason) -> u64
         Reason::Severities => 5,
         Reason::Weights => 6,
         Reason::Last => 7,
-        Reason::Room => 8,
+        Reason::Places => 8,
         Reason::Range => 9,
         Reason::Bound => 10,
     }
@@ -55,6 +60,26 @@ fn is_refused(answer: CurveAnswer) -> bool
     match answer {
         CurveAnswer::Accepted => false,
         CurveAnswer::Refused(_, _) => true,
+    }
+}
+
+// The fault at which the rows stopped.
+fn refused_at(stop: Stop) -> CurveAnswer
+    ensures { λ r. ⌜ paper r ≡ refused (cond (stop .range) 9 10) (stop .total) ⌝ }
+{
+    if stop.range {
+        return CurveAnswer::Refused(Reason::Range, stop.total);
+    }
+    CurveAnswer::Refused(Reason::Bound, stop.total)
+}
+
+// Zeros in the first `n` places.
+fn clear(row: &mut [i64], n: usize)
+    requires { ⌜ n ≤ length (now row) ⌝ }
+    ensures { λ r. ⌜ now (row .exit) ≡ written (replicate n (pos 0)) (now (row .entry)) ⌝ }
+{
+    for i in 0..n {
+        row[i] = 0;
     }
 }
 
@@ -79,13 +104,13 @@ pub fn curve(
         return answer;
     }
     let places = job.last as usize + 1;
-    let answer = fill::fill(job, checked.total, weights, low, high, bound, work);
-    rows::clear(work, rows::WORK_COLUMNS * places);
-    if is_refused(answer) {
-        rows::clear(low, places);
-        rows::clear(high, places);
-        rows::clear(bound, places);
-        return answer;
+    let stop = fill(job, checked.total, weights, low, high, bound, work);
+    clear(work, WORK_COLUMNS * places);
+    if stop.total < places {
+        clear(low, places);
+        clear(high, places);
+        clear(bound, places);
+        return refused_at(stop);
     }
     answer
 }

@@ -7,7 +7,8 @@ use model::Job;
 use model::Law;
 use model::Start;
 ghost use mathlib.Core.Path.{_≡_};
-ghost use Rattle.compound.specs.Call.{lentRows, paper, curveAnswer, curveLent};
+ghost use Rattle.rows.specs.Layout.{lentRows};
+ghost use Rattle.compound.specs.Call.{paper, curveAnswer, curveLent};
 ghost use Rattle.interface.specs.Handed.{returned, jobOfNumbers};
 
 fn number_of(answer: CurveAnswer) -> u64

@@ -33,7 +33,8 @@ use Rattle.model.specs.Job.{startOf, jobOf}
 use Rattle.sheet.specs.Reading.{weightLines, severityLine, lastLine, startLine, termLines, lawLine, reading}
 use Rattle.enclosure.specs.declared.Entry.{Entry}
 use Rattle.enclosure.specs.Term.{entryOf, Small}
-use Rattle.compound.specs.Call.{lentRows, workPlaces, tooShort, curveAnswer, curveLent}
+use Rattle.rows.specs.Layout.{lentRows, workPlaces}
+use Rattle.compound.specs.Call.{tooShort, curveAnswer, curveLent}
 use Rattle.compound.proofs.Accepted.{limits, entry-small}
 use Rattle.report.specs.Report.{totalLine, totalLines, refusalLine, mostTotals, mostWeights, zeros, programRows}
 use Rattle.report.specs.Report.{rowsText, curveText, readingText, reportText}

@@ -15,7 +15,8 @@ use Rattle.text.specs.Output.{lineText}
 use Rattle.sheet.specs.Sheet.{Sheet, sheetText}
 use Rattle.sheet.specs.Reading.{Reading, reads, refuses, reading}
 use Rattle.sheet.specs.Accepts.{Writable}
-use Rattle.compound.specs.Call.{Lent, lentRows, workPlaces, curveAnswer, curveLent}
+use Rattle.rows.specs.Layout.{Lent, lentRows, workPlaces}
+use Rattle.compound.specs.Call.{curveAnswer, curveLent}
 
 -- ---- lines
 abbrev pub totalLine : ℕ → (low high bound : ℤ) → List ℕ

@@ -2,17 +2,20 @@
 use borrow.Author.Needs.{needs}
 use borrow.Author.Tests.{not-true, not-false}
 use mathlib.Core.Path.{_≡_, sym, ap, _∙_}
-use mathlib.Core.Bool.{true}
+use mathlib.Core.Bool.{true, cond}
 use mathlib.Core.List.{List, []}
 use Prim.Native.Nat.{ℕ, _+_}
 use native.Mathlib.Omega.{arith}
 use Rattle.model.specs.declared.Job.{Job}
-use Rattle.model.specs.Answer.{accepted, isAccepted, firstOf}
-use Rattle.compound.specs.Call.{Lent, lentRows, paper, checks}
-use Rattle.compound.specs.Room.{Limits, LongEnough, Filled}
+use Rattle.model.specs.Answer.{accepted, refused, isAccepted, firstOf}
+use Rattle.rows.specs.declared.fill.Stop.{Stop}
+use Rattle.rows.specs.Layout.{Lent, lentRows, LongEnough}
+use Rattle.compound.specs.Call.{paper, checks}
+use Rattle.rows.specs.Limits.{Limits}
+use Rattle.rows.specs.Progress.{Filled}
 use Rattle.compound.proofs.Call.{checked-limits}
-use Rattle.compound.proofs.Kept.{long-kept}
-use Rattle.compound.proofs.Returned.{accepted-paper, early-answer, early-rows, late-answer, fault-rows, end-rows}
+use Rattle.rows.proofs.Kept.{long-kept}
+use Rattle.compound.proofs.Returned.{accepted-paper, early-answer, early-rows, fault-answer, fault-rows, end-answer, end-rows}
 use Rattle.compound.proofs.curve.Statement.{statement}
 use Rattle.compound.proofs.curve.Tie as tie
 
@@ -87,7 +90,7 @@ clear-requires c κs =
     omega (arith, still-long f .work-long)
 
 -- the work row cleared
-abbrev fill-of : tie.After-is-refused2 → tie.After-fill
+abbrev fill-of : tie.After-struct-known → tie.After-fill
 fill-of c = c .before .before .before .before .before .before .before .before
 
 clear-requires-2 : tie.Need-clear-requires-2
@@ -102,17 +105,18 @@ clear-requires-4 c κs = still-long (fill-of (c .before .before .before .before 
 -- ---- refused at a total
 returns-2 : tie.Need-returns-2
 returns-2 c =
-    let bound = c .before in
+    let bound = c .before .before in
     let high = bound .before .before .before in
     let low = high .before .before .before in
     let then = low .before .before in
     let call = fill-of (then .before) in
     let s = start (else call) in
-    let answer = call .fill .ensures .0 in
-    let refuses = ap isAccepted (sym answer) ∙ not-true _ (sym (then .before .is-refused2 .ensures) ∙ then .if2 .taken) in (
-      answer ∙ late-answer (job s) (weights s) (lent₀ s) (passed (else call)),
+    let stop = call .fill .ensures .0 in
+    let here = rw stop at (then .if2 .taken) in (
+      c .refused-at .ensures ∙ ap (λ (r : Stop). refused (cond (r .range) 9 10) (r .total)) stop
+          ∙ fault-answer (job s) (weights s) (lent₀ s) (passed (else call)) here,
       fault-rows (job s) (weights s) (lent₀ s) (passed (else call)) (lent call) (filled call) _
-          (then .before .before .before .clear .ensures) refuses _ _ _
+          (then .before .before .before .clear .ensures) here _ _ _
           (low .clear2 .ensures) (high .clear3 .ensures) (bound .clear4 .ensures),
     )
 
@@ -121,11 +125,11 @@ returns-3 : tie.Need-returns-3
 returns-3 c =
     let call = fill-of (c .before) in
     let s = start (else call) in
-    let answer = call .fill .ensures .0 in
-    let accepts = ap isAccepted (sym answer) ∙ not-false _ (sym (c .before .is-refused2 .ensures) ∙ c .if2 .left) in (
-      answer ∙ late-answer (job s) (weights s) (lent₀ s) (passed (else call)),
+    let all = rw (call .fill .ensures .0) at (c .if2 .left) in (
+      accepted-paper (else call .before .before .check .result .answer) (accepts (else call))
+          ∙ end-answer (job s) (weights s) (lent₀ s) (passed (else call)) all,
       end-rows (job s) (weights s) (lent₀ s) (passed (else call)) (lent call) (filled call) _
-          (c .before .before .before .clear .ensures) (long (else call)) accepts,
+          (c .before .before .before .clear .ensures) (long (else call)) (limits (else call) .law .order-least) all,
     )
 
 pub curve-spec : {M : Type 1} → statement M
@@ -143,10 +147,10 @@ curve-spec =
     fill-requires
     mul-clear
     clear-requires
-    (λ c κs. search needs)
     clear-requires-2
     clear-requires-3
     clear-requires-4
+    (λ c κs. search needs)
     (λ c. search needs)
     (λ c. search needs)
     (λ c. search needs)

@@ -9,7 +9,8 @@ use lib.Dec.{eqb}
 use Rattle.model.specs.declared.Job.{Job}
 use Rattle.model.specs.Answer.{accepted, refused}
 use Rattle.compound.specs.declared.CurveAnswer.{CurveAnswer}
-use Rattle.compound.specs.Call.{Lent, numberOf, paper, curveAnswer, curveLent}
+use Rattle.rows.specs.Layout.{Lent}
+use Rattle.compound.specs.Call.{numberOf, paper, curveAnswer, curveLent}
 use Rattle.compound.proofs.Returned.{numbered}
 use Rattle.compound.proofs.Accepted.{limits}
 use Rattle.report.specs.Report.{programRows, rowsText, refusalLine, curveText}

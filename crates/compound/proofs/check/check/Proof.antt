@@ -15,7 +15,7 @@ use Rattle.model.proofs.Tests.{within}
 use Rattle.compound.specs.declared.Reason.{Reason}
 use Rattle.compound.specs.declared.check.Checked.{Checked}
 use Rattle.compound.specs.Call.{numberOf, paper, checks}
-use Rattle.compound.specs.Room.{refusedBy}
+use Rattle.compound.specs.Checks.{refusedBy}
 use Rattle.compound.proofs.Tests.{capped-outside}
 use Rattle.compound.proofs.Returned.{numbered}
 use Rattle.compound.proofs.check.check.Statement.{statement}

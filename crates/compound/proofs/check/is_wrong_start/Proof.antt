@@ -11,4 +11,4 @@ returns-2 : tie.Need-returns-2
 returns-2 c = simp (le-ltb _ _ (c .before .if1 .left), c .is-outside .ensures)
 
 pub is-wrong-start-spec : {M : Type 1} → statement M
-is-wrong-start-spec = tie.close (tie.spec (λ c κs. search needs) returns returns-2)
+is-wrong-start-spec = tie.close (tie.spec (λ c. search needs) (λ c κs. search needs) returns returns-2)

@@ -1,0 +1,107 @@
+-- The three cases of the rule are the code's three ways: at total 0 the start, later the sums of row 0, or those of the term whose factor is
+-- the weight, divided.
+use borrow.Author.Needs.{needs}
+use mathlib.Core.Path.{_≡_, refl, sym, _∙_, ap₂}
+use Prim.Native.Nat.{suc, _-_, _<_}
+use native.Mathlib.Omega.{arith}
+use Rattle.enclosure.specs.Entry.{rounded}
+use Rattle.rows.specs.Curve.{sumsNext}
+use Rattle.rows.specs.Layout.{lentRows, stored}
+use Rattle.rows.proofs.Preserved.{divisor-pos-zero}
+use Rattle.rows.proofs.Recursion.{suc-pred, entry-first, entry-later}
+use Rattle.rows.proofs.Sums.{next-is, reachable, next-room, bound-fits}
+use Rattle.rows.proofs.total.entry_at.Statement.{statement}
+use Rattle.rows.proofs.total.entry_at.Tie as tie
+
+-- total 0
+returns : tie.Need-returns
+returns c =
+    let t = c .before in
+    let a = t .before .before .args in
+    c .first-entry .ensures ∙ sym (entry-first (a .job) (a .weights .now) _ (a .row) (a .x) (t .if1 .taken))
+
+-- row 0
+divisor-zero-requires : tie.Need-divisor-zero-requires
+divisor-zero-requires c κs =
+    let s = c .before .before .before .before in
+    let basis = s .pre .1 .0 .basis in
+    (basis .law-limits .divisor-most, omega (arith, s .pre .0 .1, basis .table-limits .weights-most), basis .total-most)
+
+divide-sums-requires : tie.Need-divide-sums-requires
+divide-sums-requires c κs =
+    let e = c .before in
+    let t = e .before in
+    let s = t .before .before .before in
+    let a = s .args in
+    let basis = s .pre .1 .0 .basis in
+    let least = divisor-pos-zero (a .job .law) (a .weights .now) (basis .law-limits .divisor-least) (basis .table-limits .weights-least)
+    (a .x) (omega (arith, t .before .if1 .left)) in (
+      rw (c .divisor-zero .ensures .0 (a .job .law) (a .weights .now) refl (s .pre .0 .1)) least,
+      c .divisor-zero .ensures .1,
+      rw (e .sums-zero .ensures) (bound-fits (a .job .law) (a .weights .now) (a .x) _ basis 0 _ (basis .law-limits .order-least)),
+    )
+
+returns-2 : tie.Need-returns-2
+returns-2 c =
+    let d = c .before in
+    let t = d .before .before in
+    let s = t .before .before .before in
+    let a = s .args in
+    c .divide-sums .ensures
+    ∙ ap₂ rounded (d .divisor-zero .ensures .0 (a .job .law) (a .weights .now) refl (s .pre .0 .1)) (d .before .sums-zero .ensures)
+    ∙ sym (entry-later (a .job) (a .weights .now) _ (a .row) (a .x) (t .before .if1 .left) 0 (t .if2 .taken))
+
+-- a further row, from the row before it
+before-below : (c : tie.Else2) → c .before .before .before .args .row - 1 < c .before .before .before .args .job .law .order
+before-below c = omega (arith, c .before .before .before .pre .0 .0)
+
+add-row-requires : tie.Need-add-row-requires
+add-row-requires c κs =
+    let ready = c .before .before .before .pre .1 .0 in
+    (reachable _ _ _ _ _ ready _ (before-below c), next-room _ _ _ _ (ready .basis) _ (before-below c))
+
+-- its sums are those of the definition
+sums-are : (c : tie.After-add-row) → let a = c .before .before .before .before .args in
+    c .add-row .result ≡ sumsNext (a .weights .now) (stored (a .places) (lentRows (a .low .now) (a .high .now) (a .bound .now) (a .work .now)))
+    (a .row - 1) (a .x)
+sums-are c =
+    let a = c .before .before .before .before .args in
+    c .add-row .ensures ∙ next-is (a .weights .now) (a .x) _ (a .row - 1)
+
+divide-sums-requires-2 : tie.Need-divide-sums-requires-2
+divide-sums-requires-2 c κs =
+    let s = c .before .before .before .before in
+    let a = s .args in
+    let basis = s .pre .1 .0 .basis in
+    let table = basis .table-limits in
+    let below : suc (a .row - 1) < a .job .law .order = omega (arith, s .pre .0 .0, c .before .if2 .left) in (
+      omega (arith, s .pre .0 .1, table .weights-least),
+      omega (arith, s .pre .0 .1, table .weights-most),
+      rw (sums-are c) (bound-fits (a .job .law) (a .weights .now) (a .x) _ basis (suc (a .row - 1)) _ below),
+    )
+
+returns-3 : tie.Need-returns-3
+returns-3 c =
+    let d = c .before in
+    let t = d .before in
+    let s = t .before .before .before in
+    let a = s .args in
+    c .divide-sums2 .ensures
+    ∙ ap₂ rounded (s .pre .0 .1) (sums-are d)
+    ∙ sym (entry-later (a .job) (a .weights .now) _ (a .row) (a .x) (t .before .if1 .left) (suc (a .row - 1))
+    (suc-pred (a .row) (t .if2 .left)))
+
+pub entry-at-spec : {M : Type 1} → statement M
+entry-at-spec =
+    tie.close
+    (tie.spec
+    (λ c κs. search needs)
+    returns
+    (λ c κs. search needs)
+    divisor-zero-requires
+    divide-sums-requires
+    returns-2
+    (λ c. search needs)
+    add-row-requires
+    divide-sums-requires-2
+    returns-3)

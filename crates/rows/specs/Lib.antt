@@ -1,0 +1,8 @@
+-- The curve by the outward rule (`Curve`), its faults (`Faults`), and that its sums fit (`Fits`), in the paper's words. `Limits`, `Layout`
+-- and `Progress` serve the contracts of the functions that fill the rows.
+pub mod Curve
+pub mod Faults
+pub mod Limits
+pub mod Fits
+pub mod Layout
+pub mod Progress

@@ -1,0 +1,31 @@
+-- What the curve call's checks leave of a job: it lies within the paper's limits.
+use mathlib.Core.List.{List}
+use Prim.Native.Nat.{ℕ, _≤_, _<_}
+use lib.IntN.{pos, natAbs}
+use lib.ListN.{getD}
+use Rattle.model.specs.declared.Law.{Law}
+use Rattle.model.specs.declared.Job.{Job}
+use Rattle.model.specs.Limits.{unit, mostOrder, mostLast}
+use Rattle.model.specs.Table.{totalWeight}
+
+-- what checks 1 to 3 leave of its law
+pub record LawLimits (law : Law) : Type 0 where
+  pub order-least : 1 ≤ law .order
+  pub order-most : law .order ≤ mostOrder
+  pub divisor-least : 1 ≤ law .divisor
+  pub divisor-most : law .divisor ≤ 1000
+  pub a-small : (i : ℕ) → i < mostOrder → natAbs (getD (law .a) i (pos 0)) ≤ 1000
+  pub b-small : (i : ℕ) → i < mostOrder → natAbs (getD (law .b) i (pos 0)) ≤ 1000
+
+-- what check 6 leaves of its table
+pub record TableLimits (weights : List ℕ) : Type 0 where
+  pub weights-least : 1 ≤ totalWeight weights
+  pub weights-most : totalWeight weights ≤ 1000
+
+-- what checks 1 to 7 leave
+pub record Limits (job : Job) (weights : List ℕ) : Type 0 where
+  pub law : LawLimits (job .law)
+  pub table : TableLimits weights
+  pub start-order : job .start .low ≤ job .start .high
+  pub start-most : job .start .high ≤ unit
+  pub last-most : job .last ≤ mostLast
