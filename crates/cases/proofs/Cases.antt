@@ -14,9 +14,9 @@ use Rattle.algebra.proofs.Table.{and-left, and-right, each-passes, same-integer
 use Rattle.outward.specs.Division.{floorDiv, ceilDiv}
 use Rattle.model.specs.Answer.{Answer, refused, firstOf}
 use Rattle.enclosure.specs.Entry.{scaled, rounded}
-use Rattle.rows.specs.Curve.{factor, sumsZero, sumsNext, entryAt, withNext, history, curveRows}
+use Rattle.rows.specs.Curve.{factor, sumsZero, sumsNext, divisorZero, entryAt, withNext, history, curveRows}
 use Rattle.rows.specs.Layout.{Lent, lentRows}
-use Rattle.rows.specs.Faults.{firstFault}
+use Rattle.rows.specs.Faults.{firstFault, rangeFault}
 use Rattle.compound.specs.Call.{curveAnswer, rowAfter, curveLent}
 use Rattle.quantile.specs.Call.{Quantiles, quantileOf, quantiles}
 use Rattle.text.specs.Bytes.{ascii}
@@ -111,7 +111,8 @@ sound (level low high L answer) t = same-quantiles (quantiles low high L) answer
 sound (program s text) t = same-bytes (reportText s) (ascii text) t
 
 pub cases-hold : CasesHold
-unfolding curveAnswer curveLent rowAfter firstFault curveRows history withNext entryAt sumsNext sumsZero factor rounded scaled
+unfolding curveAnswer curveLent rowAfter rangeFault firstFault curveRows history withNext entryAt sumsNext sumsZero divisorZero factor
+    rounded scaled
     firstOf ceilDiv floorDiv accumulate smallest listed
     reading lawLine termLines startLine lastLine severityLine weightLines line allNumbers firstNoNumber
     number valueFrom words longer afterLines before after has
