@@ -1,11 +1,12 @@
-"""Calls of the curve."""
+"""Calls of the curve. The paper's limits are written out in the cases, for limits.py to be held to."""
 from collections.abc import Callable
 from dataclasses import replace
 from fractions import Fraction
 from typing import NamedTuple
 
 import exact
-from outward import UNIT, Job
+from limits import MOST_ORDER, UNIT, WORK_COLUMNS
+from outward import Job
 
 HALF, THIRD, QUARTER = Fraction(1, 2), Fraction(1, 3), Fraction(1, 4)
 MOST = 2 ** 64 - 1
@@ -35,7 +36,7 @@ class Case(NamedTuple):
 
 
 def four(*terms):
-    return [*terms, *[0] * (4 - len(terms))]
+    return [*terms, *[0] * (MOST_ORDER - len(terms))]
 
 
 def one(divisor, a, b, low, high, last, weights=(1,)):
@@ -50,7 +51,7 @@ def no_claims(order, low, high, last):
 
 def needed(last):
     """The places that the four rows must have."""
-    return last + 1, last + 1, last + 1, 9 * (last + 1)
+    return last + 1, last + 1, last + 1, WORK_COLUMNS * (last + 1)
 
 
 P1 = one(1, 0, 1, 367879441, 367879442, 3, [1, 1])

@@ -1,7 +1,7 @@
-"""Calls of the level query."""
+"""Calls of the level query. The paper's limits are written out in the cases, for limits.py to be held to."""
 from typing import NamedTuple
 
-from outward import UNIT
+from limits import UNIT
 
 LEAST, MOST = -2 ** 63, 2 ** 63 - 1
 END = 2 * UNIT

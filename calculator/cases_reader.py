@@ -1,4 +1,4 @@
-"""Sheets for the sheet reader, good and damaged."""
+"""Sheets for the sheet reader, good and damaged. The paper's limits are written out in the cases, for limits.py to be held to."""
 from typing import NamedTuple
 
 PAPER = [b"LAW 1 1", b"TERM 0 1", b"START 367879441 367879442", b"LAST 3", b"SEVERITY 2", b"W 1", b"W 1"]

@@ -10,6 +10,7 @@ import cases_level
 import cases_reader
 from enclosed import outside
 from level import level_query
+from limits import LAST_TOTAL
 from outward import Lent, curve
 from sheet import read_sheet
 
@@ -69,7 +70,7 @@ def curve_faults(case, said, lent):
 
 def curve_call(case):
     job = case.job
-    places = case.lent or [n + 2 for n in cases_curve.needed(min(job.last, 500))]
+    places = case.lent or [n + 2 for n in cases_curve.needed(min(job.last, LAST_TOTAL))]
     lent = Lent(*([MARK] * n for n in places))
     said = curve(job, lent)
     written = [[f"{x}={held}" for x, held in enumerate(row) if held != MARK] for row in (lent.low, lent.high, lent.bound, lent.work)]

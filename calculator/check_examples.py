@@ -9,7 +9,7 @@ from fractions import Fraction
 
 import exact
 import program
-from outward import UNIT
+from limits import MOST_WEIGHTS, UNIT
 from sheet import read_job
 
 FOLDER = pathlib.Path(__file__).parent.parent / "examples"
@@ -72,7 +72,7 @@ def faults(name):
         yield f"the calculator says {table!r:.200}"
     if name in LAWS:
         law, none = LAWS[name]
-        job = read_job(sheet, program.MOST_WEIGHTS)
+        job = read_job(sheet, MOST_WEIGHTS)
         yield from term_faults(job, law)
         yield from start_faults(job, UNIT * none)
         if name not in REFUSED:

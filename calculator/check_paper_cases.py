@@ -1,208 +1,232 @@
 """Sets the calls in crates/cases/specs/Cases.antt beside outward.py, sheet.py, level.py and program.py, and the lows and highs of curves
-beside the exact amounts of exact.py. Every row must be known here, and agree. What the table's words stand for (the lent rows, the paper's
-sheet with two lines left open) is written here once more."""
+beside the exact amounts of exact.py. Every row must be read, and agree. Short names are read as the file defines them, with parameters or
+without; words that it takes from elsewhere are in WORDS. Another file of this form can be given as an argument."""
+import operator
 import pathlib
 import re
 import sys
 from collections import Counter
+from inspect import signature
 from typing import NamedTuple
 
 from enclosed import outside
-from level import Answer as Totals, level_query
+from level import level_query
 from outward import Job, Lent, curve
 from program import output
-from sheet import NO_JOB, read_sheet
+from sheet import read_sheet
 
-MARK = 7
-ROW = [MARK] * 3
-
-
-class Curve(NamedTuple):
-    """A row on the curve call."""
-    job: Job
-    answer: tuple
-    after: Lent
+SOURCE = pathlib.Path(__file__).parent.parent / "crates/cases/specs/Cases.antt"
 
 
-class Sheet(NamedTuple):
-    """A row on the sheet reader."""
-    text: bytes
-    answer: tuple
-    job: Job
-    after: list
-    word: bytes
+# ---- rows: what the calculator says to the call of each kind, in the order in which a row claims it behind what the call is given. Records
+# have the fields that they have in the crates.
+
+def answer(number, place):
+    return {"number": number, "place": place}
 
 
-class Program(NamedTuple):
-    """A row on the program."""
-    sheet: bytes
-    text: str
+def job_record(job):
+    law = {"order": job.order, "divisor": job.divisor, "a": job.a, "b": job.b}
+    return {"law": law, "start": {"low": job.low_start, "high": job.high_start}, "last": job.last}
 
 
-class Level(NamedTuple):
-    """A row on the level query."""
-    low: list
-    high: list
-    level: int
-    answer: Totals
+def job_of(record, weights):
+    law, start = record["law"], record["start"]
+    return Job(law["order"], law["divisor"], law["a"], law["b"], start["low"], start["high"], weights, record["last"])
 
 
-def law(k, D, A, B):
-    return k, D, *(terms + [0] * (4 - len(terms)) for terms in (A, B))
+def on_curve(job, weights, lent):
+    rows = Lent(**{name: list(row) for name, row in lent.items()})
+    return {
+        "answer": answer(*curve(job_of(job, weights), rows)),
+        "lent rows": vars(rows),
+    }
 
 
-def lent_for(X):
-    return Lent(*([MARK] * (X + 3) for _ in range(3)), [MARK] * (9 * (X + 1) + 1))
+def on_reader(sheet, row):
+    read = read_sheet(bytes(sheet), len(row))
+    weights = read.job.weights
+    return {
+        "what is told": {"answer": answer(read.number, read.line), "job": job_record(read.job), "count": len(weights), "weights": weights},
+        "lent row": weights + row[len(weights):],
+        "faulty word": list(read.word),
+    }
 
 
-def holding(low, high, bound):
-    return lambda X: Lent(*(row + [MARK] * 2 for row in (low, high, bound)), [0] * (9 * (X + 1)) + [MARK])
+def on_level(low, high, level):
+    said = level_query(low, high, level)
+    return {"answer": {"answer": answer(said.number, said.place), "sure": said.sure, "possible": said.possible}}
 
 
-def cleared(X):
-    return holding(*([0] * (X + 1) for _ in range(3)))(X)
+def on_program(sheet):
+    return {"text": output(bytes(sheet)).decode()}
 
 
-def call(job, weights, answer, after):
-    law, start, X = job
-    return Curve(Job(*law, *start, weights, X), answer, after(X))
+# each with the number of rows that there are at least
+KINDS = {"curve": (on_curve, 13), "reader": (on_reader, 5), "level": (on_level, 13), "program": (on_program, 4)}
 
 
-def sheet(line2, line6):
-    """The paper's sheet with another line 2 and line 6."""
-    return f"LAW 1 1\n{line2}\nSTART 367879441 367879442\nLAST 3\nSEVERITY 2\n{line6}\nW 1\n".encode()
+class Row(NamedTuple):
+    """A row of the table, by its kind and the arguments that it has so far; it takes more of them one by one."""
+    kind: str
+    given: tuple = ()
+
+    def __call__(self, argument):
+        return Row(self.kind, (*self.given, argument))
+
+    def parts(self):
+        """What the call is given, and what is claimed of it."""
+        inputs = len(signature(KINDS[self.kind][0]).parameters)
+        return self.given[:inputs], self.given[inputs:]
 
 
-def acceptance(text, job, weights, after):
-    law, start, X = job
-    return Sheet(text, (0, 0), Job(*law, *start, weights, X), after, b"")
+# ---- the file's words
 
-
-def refusal(text, number, line, word):
-    return Sheet(text, (number, line), NO_JOB, ROW, word.encode())
-
-
-# the words of the table, besides the names that the file defines without parameters
+# functions take their arguments one by one
 WORDS = {
+    **{kind: Row(kind) for kind in KINDS},
     "pos": lambda n: n,
-    "negℤ": lambda n: -n,
-    "map": lambda f, values: [f(value) for value in values],
-    "law": law,
-    "startOf": lambda s, t: (s, t),
-    "accepted": (0, 0),
-    "refused": lambda number, place: (number, place),
-    "untouched": lent_for,
-    "holding": holding,
-    "cleared": cleared,
-    "jobOf": lambda law, start, X: (law, start, X),
-    "call": call,
-    "row": lambda law, start, X, weights, answer, after: call((law, start, X), weights, answer, after),
-    "sheet": sheet,
-    "acceptance": acceptance,
-    "refusal": refusal,
-    "replicate": lambda count, value: [value] * count,
-    "level": Level,
-    "ascii": str.encode,
-    "program": Program,
-    "totals": lambda sure, possible: Totals(0, 0, sure, possible),
-    "noTotals": lambda number, place: Totals(number, place, 0, 0),
+    "negℤ": lambda z: -z,
+    "map": lambda f: lambda values: [f(value) for value in values],
+    "length": len,
+    "replicate": lambda count: lambda value: [value] * count,
+    "ascii": lambda text: list(text.encode()),
+    "lawOf": lambda order: lambda divisor: lambda a: lambda b: {"order": order, "divisor": divisor, "a": a, "b": b},
+    "startOf": lambda low: lambda high: {"low": low, "high": high},
+    "jobOf": lambda law: lambda start: lambda last: {"law": law, "start": start, "last": last},
+    "accepted": answer(0, 0),
+    "refused": lambda number: lambda place: answer(number, place),
+    "lentRows": lambda low: lambda high: lambda bound: lambda work: {"low": low, "high": high, "bound": bound, "work": work},
 }
 
+# each with how strongly it binds, to its left and to its right
+OPERATORS = {
+    "*": (70, 71, operator.mul),
+    "∷": (67, 67, lambda first, others: [first, *others]),
+    "++": (65, 66, operator.add),
+    "+": (65, 66, operator.add),
+    "-": (65, 66, lambda n, m: max(0, n - m)),
+}
+CLOSING = (")", "}", ";")
 
-def definitions(text):
-    """The tokens of each definition without parameters."""
-    text = re.sub(r"^ *--.*\n", "", text, flags=re.MULTILINE)
-    found = re.findall(r"^(\w+) =(.*\n(?:    .*\n)*)", text, flags=re.MULTILINE)
-    return {name: re.findall(r'"[^"]*"|[()]|\w+|[^\s\w()"]+', body) for name, body in found}
+
+def take(tokens, *due):
+    """The first token, which must be one of those due."""
+    token = tokens.pop(0)
+    if token not in due:
+        raise ValueError(f"{token} stands where one of {due} is due")
+    return token
 
 
-def read(tokens, defined):
-    """Takes an expression off the front of the tokens: a number, a word with its arguments, or a list of these."""
-    parts = []
-    while tokens and tokens[0] not in (")", "∷"):
+class Definitions:
+    """The definitions of a file. An expression is read off the front of a list of tokens; `local` are the values of parameters."""
+
+    def __init__(self, text):
+        text = re.sub(r"^ *--.*\n", "", text, flags=re.MULTILINE)
+        found = re.findall(r"^([^\s():]+)((?: [^\s(){}=]+)*) =(.*\n(?:    .*\n)*)", text, flags=re.MULTILINE)
+        clauses = Counter(name for name, _, _ in found)
+        self.found = {name: (parameters.split(), body) for name, parameters, body in found if clauses[name] == 1}
+
+    def value(self, name, local):
+        """A parameter may have the name of a word."""
+        if name in local:
+            return local[name]
+        if name in WORDS:
+            return WORDS[name]
+        parameters, body = self.found[name]
+        return self.function(parameters, re.findall(r'"[^"]*"|[(){};]|[^\s(){};"]+', body), {})
+
+    def function(self, parameters, body, local):
+        """A function of the first parameter; without one, what the body stands for."""
+        if parameters:
+            first, *others = parameters
+            return lambda argument: self.function(others, body, {**local, first: argument})
+        tokens = list(body)
+        found = self.expression(tokens, local)
+        if tokens:
+            raise ValueError(f"this is left: {' '.join(tokens):.60}")
+        return found
+
+    def expression(self, tokens, local, least=0):
+        """Applications with operators between them that bind no weaker than `least`."""
+        found = self.application(tokens, local)
+        while tokens and tokens[0] in OPERATORS and OPERATORS[tokens[0]][0] >= least:
+            _, right, join = OPERATORS[tokens.pop(0)]
+            found = join(found, self.expression(tokens, local, right))
+        return found
+
+    def application(self, tokens, local):
+        """A function with its arguments, or a record with the names of fields behind it."""
+        found = self.operand(tokens, local)
+        while tokens and tokens[0] not in OPERATORS and tokens[0] not in CLOSING:
+            found = found[tokens.pop(0)[1:]] if tokens[0].startswith(".") else found(self.operand(tokens, local))
+        return found
+
+    def operand(self, tokens, local):
         token = tokens.pop(0)
         if token == "(":
-            parts.append(read(tokens, defined))
-            tokens.pop(0)
-        elif token == "[]":
-            parts.append([])
-        elif token.isdigit():
-            parts.append(int(token))
-        elif token.startswith('"'):
-            parts.append(token[1:-1].replace("\\n", "\n"))
-        else:
-            parts.append(WORDS[token] if token in WORDS else read(list(defined[token]), defined))
-    head, *arguments = parts
-    found = head(*arguments) if arguments else head
-    if tokens and tokens[0] == "∷":
-        tokens.pop(0)
-        return [found] + read(tokens, defined)
-    return found
+            found = self.expression(tokens, local)
+            take(tokens, ")")
+            return found
+        if token == "record":
+            return self.record(tokens, local)
+        if token == "[]":
+            return []
+        if token.isdigit():
+            return int(token)
+        if token.startswith('"'):
+            return token[1:-1].replace("\\n", "\n")
+        return self.value(token, local)
+
+    def record(self, tokens, local):
+        fields = {}
+        take(tokens, "{")
+        while True:
+            name = tokens.pop(0)
+            take(tokens, "=")
+            fields[name] = self.expression(tokens, local)
+            if take(tokens, ";", "}") == "}":
+                return fields
 
 
-def table():
-    source = pathlib.Path(__file__).parent.parent / "crates/cases/specs/Cases.antt"
+def table(source):
     try:
-        defined = definitions(source.read_text())
-        return read(defined["cases"], defined)
+        return Definitions(source.read_text()).value("cases", {})
     except (KeyError, IndexError, TypeError, ValueError) as error:
         sys.exit(f"a row cannot be read: {source}: {error!r}")
 
 
-def curve_differences(row):
-    lent = lent_for(row.job.last)
-    answer = curve(row.job, lent)
-    if answer != row.answer:
-        yield f"the table has {row.answer}, the calculator {answer}"
-    for name in ("low", "high", "bound", "work"):
-        stated, found = getattr(row.after, name), getattr(lent, name)
-        if stated != found:
-            yield f"{name}: the table has {stated}, the calculator {found}"
+# ---- both beside each other
 
-
-def sheet_differences(row):
-    found = read_sheet(row.text, len(ROW))
-    weights = found.job.weights
-    told = (found.number, found.line), found.job, weights + ROW[len(weights):], found.word
-    if told != (row.answer, row.job, row.after, row.word):
-        yield f"the table has {row}, the calculator {told}"
-
-
-def level_differences(row):
-    answer = level_query(row.low, row.high, row.level)
-    if answer != row.answer:
-        yield f"the table has {row.answer}, the calculator {answer}"
-
-
-def program_differences(row):
-    text = output(row.sheet)
-    if text != row.text.encode():
-        yield f"the table has {row.text!r}, the calculator {text}"
+def is_accepted_curve(row):
+    return row.kind == "curve" and row.parts()[1][0] == answer(0, 0)
 
 
 def differences(row):
-    if isinstance(row, Sheet):
-        return list(sheet_differences(row))
-    if isinstance(row, Level):
-        return list(level_differences(row))
-    if isinstance(row, Program):
-        return list(program_differences(row))
-    faults = list(curve_differences(row))
-    return faults or (list(outside(row.job, row.after)) if row.answer == (0, 0) else [])
+    given, claims = row.parts()
+    said = KINDS[row.kind][0](*given)
+    if len(claims) != len(said):
+        return [f"the table claims {len(claims)} things, the calculator says {len(said)}: {', '.join(said)}"]
+    faults = [f"{name}: the table has {stated!r}, the calculator {found!r}"
+              for (name, found), stated in zip(said.items(), claims) if stated != found]
+    if is_accepted_curve(row) and not faults:
+        job, weights, _ = given
+        faults += outside(job_of(job, weights), Lent(**said["lent rows"]))
+    return faults
 
 
 def main():
-    rows = table()
+    rows = table(pathlib.Path(sys.argv[1]) if sys.argv[1:] else SOURCE)
     wrong = 0
     for number, row in enumerate(rows, 1):
         faults = differences(row)
         wrong += bool(faults)
         for fault in faults:
             print(f"row {number}: {fault}")
-    accepted = sum(isinstance(row, Curve) and row.answer == (0, 0) for row in rows)
+    accepted = sum(map(is_accepted_curve, rows))
     print(f"the paper's cases: {len(rows)} rows set beside the calculator, {accepted} of them with exact amounts, {wrong} differ")
-    kinds = Counter(map(type, rows))
-    if wrong or kinds[Curve] < 13 or kinds[Sheet] < 5 or kinds[Level] < 13 or kinds[Program] < 4:
+    kinds = Counter(row.kind for row in rows)
+    if wrong or any(kinds[kind] < least for kind, (_, least) in KINDS.items()):
         sys.exit(1)
 
 

@@ -2,9 +2,7 @@
 from itertools import accumulate
 from typing import NamedTuple
 
-from outward import UNIT
-
-MOST_PLACES = 501
+from limits import MOST_END, MOST_TOTALS, UNIT
 
 
 class Answer(NamedTuple):
@@ -25,12 +23,12 @@ def reached(row, level):
 
 
 def level_query(low, high, level):
-    if not low or len(low) != len(high) or len(low) > MOST_PLACES:
+    if not low or len(low) != len(high) or len(low) > MOST_TOTALS:
         return refused(31)
     if not 1 <= level <= UNIT:
         return refused(32)
     for x, entry in enumerate(zip(low, high)):
-        if any(abs(end) > 2 * UNIT for end in entry) or entry[0] > entry[1]:
+        if any(abs(end) > MOST_END for end in entry) or entry[0] > entry[1]:
             return refused(33, x)
     if not reached(low, level):
         return refused(34)

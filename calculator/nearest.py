@@ -5,7 +5,7 @@ import pathlib
 import sys
 from fractions import Fraction
 
-import program
+from limits import MOST_WEIGHTS, UNIT
 from sheet import Refused, read_job
 
 
@@ -29,7 +29,7 @@ def nearest(job, start):
 
 def nine_digits(units):
     sign = "-" if units < 0 else ""
-    whole, part = divmod(abs(units), 1_000_000_000)
+    whole, part = divmod(abs(units), UNIT)
     return f"{sign}{whole}.{part:09}"
 
 
@@ -42,7 +42,7 @@ def main():
         sys.exit("usage: nearest.py SHEET START")
     path, start = sys.argv[1:]
     try:
-        print(end=table(read_job(pathlib.Path(path).read_bytes(), program.MOST_WEIGHTS), int(start)))
+        print(end=table(read_job(pathlib.Path(path).read_bytes(), MOST_WEIGHTS), int(start)))
     except Refused as refusal:
         sys.exit(f"the sheet is refused by {refusal.number} at line {refusal.line}")
     except (OSError, ValueError) as fault:

@@ -1,7 +1,7 @@
 """The outward rule and the curve call as the paper says them, in Python's whole numbers."""
 from dataclasses import dataclass
 
-UNIT = 1_000_000_000
+from limits import LAST_TOTAL, MOST_BOUND, MOST_DIVISOR, MOST_END, MOST_ORDER, MOST_SUM, MOST_TERM, MOST_WEIGHTS, UNIT, WORK_COLUMNS
 
 
 @dataclass
@@ -63,33 +63,33 @@ def next_entries(job, earlier):
 
 def first_check(job, lent):
     """Refusals 1 to 8, or None."""
-    if not 1 <= job.order <= 4:
+    if not 1 <= job.order <= MOST_ORDER:
         return 1, 0
-    if not 1 <= job.divisor <= 1000:
+    if not 1 <= job.divisor <= MOST_DIVISOR:
         return 2, 0
-    for i in range(4):
-        limit = 1000 if i < job.order else 0
+    for i in range(MOST_ORDER):
+        limit = MOST_TERM if i < job.order else 0
         if abs(job.a[i]) > limit or abs(job.b[i]) > limit:
             return 3, i + 1
     if not (0 <= job.low_start <= job.high_start <= UNIT and job.high_start >= 1):
         return 4, 0
-    if not 1 <= len(job.weights) <= 500:
+    if not 1 <= len(job.weights) <= MOST_WEIGHTS:
         return 5, 0
-    if not 1 <= sum(job.weights) <= 1000:
+    if not 1 <= sum(job.weights) <= MOST_SUM:
         return 6, 0
-    if not 0 <= job.last <= 500:
+    if not 0 <= job.last <= LAST_TOTAL:
         return 7, 0
     places = job.last + 1
-    if min(len(lent.low), len(lent.high), len(lent.bound)) < places or len(lent.work) < 9 * places:
+    if min(len(lent.low), len(lent.high), len(lent.bound)) < places or len(lent.work) < WORK_COLUMNS * places:
         return 8, 0
     return None
 
 
 def fault(entries, x):
     """Refusal 9 or 10 at total x, or None."""
-    if any(abs(end) > 2 * UNIT for low, high, _ in entries for end in (low, high)):
+    if any(abs(end) > MOST_END for low, high, _ in entries for end in (low, high)):
         return 9, x
-    if any(bound > UNIT for _, _, bound in entries):
+    if any(bound > MOST_BOUND for _, _, bound in entries):
         return 10, x
     return None
 
@@ -113,5 +113,5 @@ def curve(job, lent):
     refusal, row = run(job)
     places = job.last + 1
     lent.low[:places], lent.high[:places], lent.bound[:places] = map(list, zip(*row))
-    lent.work[:9 * places] = [0] * (9 * places)
+    lent.work[:WORK_COLUMNS * places] = [0] * (WORK_COLUMNS * places)
     return refusal or (0, 0)

@@ -2,16 +2,14 @@
 As a script it reads the sheet from standard input and writes this to standard output."""
 import sys
 
+from limits import MOST_TOTALS, MOST_WEIGHTS, WORK_COLUMNS
 from outward import Lent, curve
 from sheet import read_sheet
-
-MOST_WEIGHTS = 500
-MOST_TOTALS = 501
 
 
 def long_enough():
     """Rows for every last total that the curve call accepts; a greater one is refused by 7 before their places count."""
-    return Lent(*([0] * MOST_TOTALS for _ in range(3)), [0] * (9 * MOST_TOTALS))
+    return Lent(*([0] * MOST_TOTALS for _ in range(3)), [0] * (WORK_COLUMNS * MOST_TOTALS))
 
 
 def refusal(number, place):
@@ -33,7 +31,7 @@ def text(sheet):
 
 
 def output(sheet):
-    """The program reads 16,385 bytes at most; that many are refused by 21, as are all the bytes of a longer sheet."""
+    """The program reads at most one byte more than a sheet may have; these are refused by 21, as are all the bytes of a longer sheet."""
     return text(sheet).encode()
 
 

@@ -2,12 +2,12 @@
 import re
 from dataclasses import dataclass
 
+from limits import MOST_BYTES, MOST_ORDER, MOST_WEIGHTS
 from outward import Job
 
-MOST_BYTES = 16384
 UNSIGNED = re.compile(rb"0|[1-9][0-9]{0,9}")
 SIGNED = re.compile(rb"0|-?[1-9][0-9]{0,9}")
-NO_JOB = Job(0, 0, [0] * 4, [0] * 4, 0, 0, [], 0)
+NO_JOB = Job(0, 0, [0] * MOST_ORDER, [0] * MOST_ORDER, 0, 0, [], 0)
 
 
 @dataclass
@@ -70,12 +70,12 @@ def read_job(sheet, places):
         raise Refused(21, 0)
     lines = Lines(sheet)
     order, divisor = lines.numbers(b"LAW", 2)
-    lines.limit(order, 1, 4)
-    terms = [lines.numbers(b"TERM", 2, SIGNED) for _ in range(order)] + [[0, 0]] * (4 - order)
+    lines.limit(order, 1, MOST_ORDER)
+    terms = [lines.numbers(b"TERM", 2, SIGNED) for _ in range(order)] + [[0, 0]] * (MOST_ORDER - order)
     low, high = lines.numbers(b"START", 2)
     last, = lines.numbers(b"LAST", 1)
     count, = lines.numbers(b"SEVERITY", 1)
-    lines.limit(count, 1, 500)
+    lines.limit(count, 1, MOST_WEIGHTS)
     if places < count:
         raise Refused(27, lines.taken)
     weights = [lines.numbers(b"W", 1)[0] for _ in range(count)]

@@ -4,11 +4,12 @@ recursion; the convolutions of a table serve all laws."""
 from fractions import Fraction
 
 import exact
+from limits import MOST_TOTALS
 
 SCALE = 2 ** 1200
-# Both factors of a product are rounded down by less than 1/SCALE, and a chance is a sum of 501 products at most. A chance of no claims that
-# is no fraction is wrong in its 450th digit only; the 1 is for that.
-SHORT = Fraction(2 * 501 + 1, SCALE)
+# Both factors of a product are rounded down by less than 1/SCALE, and a chance is a sum of MOST_TOTALS products at most. A chance of no
+# claims that is no fraction is wrong in its 450th digit only; the 1 is for that.
+SHORT = Fraction(2 * MOST_TOTALS + 1, SCALE)
 
 
 def convolutions(weights, last):

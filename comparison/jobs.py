@@ -6,9 +6,8 @@ from fractions import Fraction
 from typing import NamedTuple
 
 import exact
-from outward import UNIT
+from limits import UNIT
 
-LAST = 500
 DIGITS = Context(prec=450)
 HALF, THIRD, TENTH = Fraction(1, 2), Fraction(1, 3), Fraction(1, 10)
 

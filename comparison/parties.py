@@ -6,6 +6,7 @@ import sys
 from typing import NamedTuple
 
 import jobs
+from limits import LAST_TOTAL
 
 FOLDER = pathlib.Path(__file__).resolve().parent
 PROGRAM = FOLDER.parent / "target/bin/curve"
@@ -14,7 +15,7 @@ SHEETS = FOLDER.parent / "target/comparison/sheets"
 
 
 class Table(NamedTuple):
-    """Lows and highs from total 0 on; where the sheet with the last total 500 was refused, the number and the total of the refusal."""
+    """Lows and highs from total 0 on; where the sheet with the greatest last total was refused, the number and the total of the refusal."""
     rows: list
     refusal: tuple
 
@@ -30,7 +31,7 @@ def written(sheet):
 
 def program(law, table, weights):
     """Refused by 9 or 10, the sheet is given again with a last total just before, as README.md says."""
-    refusal, last = None, jobs.LAST
+    refusal, last = None, LAST_TOTAL
     sheet = jobs.sheet(law, weights, last)
     text = written(sheet)
     if text.startswith(("REFUSED 9 ", "REFUSED 10 ")):
@@ -53,7 +54,7 @@ class Answer(NamedTuple):
         return [float(chance) for chance in self.said.get(word, "").split()]
 
 
-def call(law, weights, last=jobs.LAST, options=""):
+def call(law, weights, last=LAST_TOTAL, options=""):
     """A job for actuar.R."""
     severity = jobs.severity(weights)
     by_convolutions = f"model.freq = {law.counts}, {severity}" if law.counts else ""

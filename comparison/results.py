@@ -7,7 +7,7 @@ from typing import NamedTuple
 import amounts
 import jobs
 import rounding
-from outward import UNIT
+from limits import MOST_TOTALS, UNIT
 from parties import Answer, Table
 
 LEVEL = Fraction(99, 100)
@@ -70,7 +70,7 @@ class Result(NamedTuple):
         return max(float(abs(error) / UNIT / Fraction(limit)) for error, limit in pairs if error is not None and math.isfinite(limit))
 
     def refused_totals(self):
-        return range(len(self.ours.rows), jobs.LAST + 1)
+        return range(len(self.ours.rows), MOST_TOTALS)
 
 
 def result(law, table, convolutions, ours, theirs):

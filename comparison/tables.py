@@ -4,11 +4,11 @@ from fractions import Fraction
 from itertools import groupby
 
 import jobs
-from outward import UNIT
+from limits import LAST_TOTAL, MOST_TOTALS, UNIT
 from results import quantile
 
 THREE_DIGITS = Context(prec=3)
-ALL = range(jobs.LAST + 1)
+ALL = range(MOST_TOTALS)
 
 
 def about(number):
@@ -72,7 +72,7 @@ def counts(found):
     moderate = [result for result in found if -1 <= result.law.a < 0]
     rows = [
         ("jobs: a law and a table", len(found)),
-        ("jobs that the program accepts to total 500", sum(result.ours.refusal is None for result in found)),
+        (f"jobs that the program accepts to total {LAST_TOTAL}", sum(result.ours.refusal is None for result in found)),
         ("totals with a low and a high", f"{compared:,}"),
         ("the exact amount is from low to high", f"{enclosed:,}"),
         ("actuar's chance is from low to high", f"{compared - len(outside):,}"),
@@ -87,16 +87,17 @@ def counts(found):
         ("actuar's greatest error as a part of what rounding can do", f"{max(result.part_of_limit() for result in found):.2f}"),
         ("actuar's greatest relative error, Poisson and negative binomial, chances above 1e-300", about(relative_error(positive, 1e-300))),
         ("actuar's greatest error in units, binomial with p up to 1/2", about(max(result.worst(ALL) for result in moderate))),
-        ("chances below 0 that actuar gives, to total 500", f"{sum(chance < 0 for result in found for chance in result.chances):,}"),
+        (f"chances below 0 that actuar gives, to total {LAST_TOTAL}",
+         f"{sum(chance < 0 for result in found for chance in result.chances):,}"),
         ("chances below 0 that actuar gives with its defaults", f"{sum(chance < 0 for chances in usual for chance in chances):,}"),
-        ("jobs whose exact quantile at 0.99 is 500 at most", len(known)),
+        (f"jobs whose exact quantile at 0.99 is {LAST_TOTAL} at most", len(known)),
         ("actuar, with its defaults, has another", sum(ours != theirs for ours, theirs in known)),
     ]
     return table(("", "number"), rows)
 
 
 def right_and_wrong(found):
-    """All totals from 0 to 500: whether the program accepts them, and whether actuar is off by more than a unit."""
+    """All totals: whether the program accepts them, and whether actuar is off by more than a unit."""
     def row(name, pairs):
         among = sum(len(totals) for _, totals in pairs)
         off = sum(len(result.off(totals)) for result, totals in pairs)
@@ -133,7 +134,7 @@ def wrong_by_default(found):
         usual, convolution = result.theirs.chances("USUAL"), result.theirs.chances("CONVOLUTION")
         off = result.off(range(len(usual)), usual)
         if off:
-            by_convolution = result.worst(range(min(len(convolution), jobs.LAST + 1)), convolution)
+            by_convolution = result.worst(range(min(len(convolution), MOST_TOTALS)), convolution)
             rows.append((result.law.name, result.table, ranges(off), len(usual) - 1, f"{min(usual):.3g}", f"{max(usual):.3g}",
                          result.theirs.said["QUANTILE"], quantile(result.exact), result.theirs.said.get("WARNING", "nothing"),
                          about(by_convolution)))
@@ -163,7 +164,7 @@ def small_starts(found):
 
 
 def refusals(found):
-    """Number and total of each refusal, and actuar's greatest error from there to total 500, in units."""
+    """Number and total of each refusal, and actuar's greatest error from there on, in units."""
     def cell(result):
         return f"{refusal(result.ours)}; {about(result.worst(result.refused_totals()))}" if result.ours.refusal else ""
     return by_law_and_table(found, cell)

@@ -13,7 +13,7 @@ FOLDER = "examples/class/"
 sys.path.append(str(ROOT / "calculator"))
 
 import program
-from outward import UNIT
+from limits import MOST_WEIGHTS, UNIT
 from sheet import read_job
 
 OPERATORS = {ast.Add: operator.add, ast.Sub: operator.sub, ast.Mult: operator.mul, ast.Div: operator.truediv, ast.Pow: operator.pow}
@@ -26,7 +26,7 @@ def sheet(name, last=None):
 
 
 def job(name, last=None):
-    return read_job(sheet(name, last), program.MOST_WEIGHTS)
+    return read_job(sheet(name, last), MOST_WEIGHTS)
 
 
 def lines(name, last=None):

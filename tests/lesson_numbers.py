@@ -10,8 +10,12 @@ from lesson import both_round_to, cut, evaluate, job, lines, rows
 
 import exact
 from level import level_query
+from limits import UNIT
 from nearest import nearest, nine_digits
-from outward import UNIT, first_entries, next_entries
+from outward import first_entries, next_entries
+
+# the LAST line that question 4.2 asks for
+LAST_4_2 = 500
 
 HALF, THIRD, QUARTER, FIFTH = (Fraction(1, n) for n in (2, 3, 4, 5))
 E_1, E_QUARTER = (Fraction(Context(prec=50).exp(Decimal(power))) for power in ("-1", "-0.25"))
@@ -86,7 +90,7 @@ def binomial_table():
     yield f"the lows of the totals 0 to 6 add up to {sums[0]} and the highs to {sums[1]}."
     yield (f"It is 7/3 in part 2, where they go up from {table[8][3]} to {table[12][3]} though the start was exact, and "
            f"{-job('growing.txt').a[0]} here.")
-    refusal = lines("binomial.txt", 500)[0]
+    refusal = lines("binomial.txt", LAST_4_2)[0]
     total = int(refusal.split()[2])
     low, high, bound = entry_at("binomial.txt", total)
     yield where(bound > UNIT, f"`{refusal}`. No year costs more than 6, so the exact chance of total {total} is {PUMPS[total]}. It is the "
@@ -95,8 +99,8 @@ def binomial_table():
 
 def binomial_nearest():
     """Sum over divisor of the recursion that rounds to the nearest, before it is rounded."""
-    values = nearest(job("binomial.txt", 500), 27_000_000)
-    shares = [Fraction((28 - 7 * x) * 2 * values[x - 1] + (56 - 7 * x) * values[x - 2], 9 * x) for x in range(8, 501)]
+    values = nearest(job("binomial.txt", LAST_4_2), 27_000_000)
+    shares = [Fraction((28 - 7 * x) * 2 * values[x - 1] + (56 - 7 * x) * values[x - 2], 9 * x) for x in range(8, LAST_4_2 + 1)]
     in_turn = all(share == shares[place % 2] for place, share in enumerate(shares))
     yield where(in_turn, f"From total 8 on the sum over the divisor is {shares[1]} or {shares[0]} in turn, and this is rounded to "
                          f"{round(shares[1])} or {round(shares[0])} each time.")

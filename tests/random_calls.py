@@ -7,12 +7,14 @@ from typing import NamedTuple
 
 import random_sheets
 from level import level_query
-from outward import UNIT, Job, Lent, curve
+from limits import (LAST_TOTAL, MOST_DIVISOR, MOST_END, MOST_ORDER, MOST_SUM, MOST_TERM, MOST_TOTALS, MOST_WEIGHTS, UNIT,
+                    WORK_COLUMNS)
+from outward import Job, Lent, curve
+from random_sheets import near
 from sheet import read_sheet
 
 LEAST, MOST = -2 ** 63, 2 ** 63 - 1
 HUGE = (2 ** 31, 2 ** 32, 2 ** 32 + 1, 2 ** 63 - 1, 2 ** 63, 2 ** 64 - 1)
-END = 2 * UNIT
 
 SIGNED, UNSIGNED, BYTE = "q", "Q", "B"
 
@@ -62,7 +64,7 @@ def number_row(r, kind, *after):
 def good_job(r):
     make = r.choices((random_sheets.named, random_sheets.free, random_sheets.at_edge, random_sheets.wide), (50, 25, 24, 1))[0]
     parts = make(r)
-    none = [0] * (4 - len(parts.terms))
+    none = [0] * (MOST_ORDER - len(parts.terms))
     return Job(len(parts.terms), parts.divisor, [a for a, _ in parts.terms] + none, [b for _, b in parts.terms] + none, *parts.start,
                parts.weights, parts.last)
 
@@ -73,13 +75,13 @@ def other_order(r, job):
 
 
 def other_divisor(r, job):
-    job.divisor = r.choice((0, 1, 999, 1000, 1001, 1001, r.choice(HUGE)))
+    job.divisor = r.choice((0, 1, *near(MOST_DIVISOR), r.choice(HUGE)))
 
 
 def other_term(r, job):
     terms = r.choice((job.a, job.b))
-    size = r.choice((0, 1, 999, 1000, 1001, 1001, 2 ** 31, 2 ** 32, 2 ** 32 + 1, MOST))
-    terms[r.randrange(4)] = r.choice((size, -size, LEAST))
+    size = r.choice((0, 1, *near(MOST_TERM), 2 ** 31, 2 ** 32, 2 ** 32 + 1, MOST))
+    terms[r.randrange(MOST_ORDER)] = r.choice((size, -size, LEAST))
 
 
 def other_start(r, job):
@@ -89,7 +91,7 @@ def other_start(r, job):
 
 def other_count(r, job):
     """No weights, or as many as the limit is, or more; their sum is mostly good."""
-    count = r.choice((0, 0, 499, 500, 501, 501, 502, r.randint(0, 502)))
+    count = r.choice((0, 0, *near(MOST_WEIGHTS), MOST_WEIGHTS + 2, r.randint(0, MOST_WEIGHTS + 2)))
     job.weights = (job.weights + [0] * count)[:count]
 
 
@@ -97,7 +99,7 @@ def other_sum(r, job):
     """At the limits, and such that 64 bits or 32 would take the sum for a good one."""
     y = r.randrange(len(job.weights)) if job.weights else 0
     others = sum(job.weights) - sum(job.weights[y:y + 1])
-    aim = r.choice((0, 999, 1000, 1001, 1001, 2 ** 32 + 1))
+    aim = r.choice((0, *near(MOST_SUM), 2 ** 32 + 1))
     job.weights[y:y + 1] = r.choice((
         [max(0, aim - others)], [r.choice(HUGE)], [2 ** 64 - 1, 1], [2 ** 64 - 1, 2], [2 ** 63, 2 ** 63], [2 ** 63, 2 ** 63, 5],
     ))
@@ -107,8 +109,9 @@ def other_sum(r, job):
 
 def other_last(r, job):
     """A great last total is computed for small tables only, as the calculator takes long."""
-    most = 502 if len(job.weights) < 20 else 12
-    job.last = r.choice((0, 1, min(most, 499), min(most, 500), r.randint(0, most), 501, 501, 502, r.choice(HUGE)))
+    most = LAST_TOTAL + 2 if len(job.weights) < 20 else 12
+    job.last = r.choice((0, 1, min(most, LAST_TOTAL - 1), min(most, LAST_TOTAL), r.randint(0, most), LAST_TOTAL + 1, LAST_TOTAL + 1,
+                         LAST_TOTAL + 2, r.choice(HUGE)))
 
 
 CHANGES = (other_order, other_divisor, other_term, other_start, other_count, other_sum, other_last)
@@ -117,9 +120,9 @@ CHANGES = (other_order, other_divisor, other_term, other_start, other_count, oth
 def row_lengths(r, last):
     """Of low, high, bound and work: mostly just long enough or longer, or long enough for every job."""
     if r.random() < 0.05:
-        return 501, 501, 501, 9 * 501
-    totals = min(last, r.choice((500, 510))) + 1
-    needed = [totals, totals, totals, 9 * totals]
+        return MOST_TOTALS, MOST_TOTALS, MOST_TOTALS, WORK_COLUMNS * MOST_TOTALS
+    totals = min(last, LAST_TOTAL + r.choice((0, 10))) + 1
+    needed = [totals, totals, totals, WORK_COLUMNS * totals]
     lengths = [length + r.choice((0, 0, 1, 7)) for length in needed]
     if r.random() < 0.15:
         i = r.randrange(4)
@@ -155,7 +158,8 @@ def random_places(r, sheet):
     """How many places the row for the weights has: often about m."""
     told = re.search(rb"SEVERITY ([0-9]{1,3})\b", sheet)
     count = int(told[1]) if told else 0
-    return r.choice((max(0, count - 1), count, count + 1, min(count, 500), 0, 499, 500, 500, 500, 501, r.randint(0, 510)))
+    return r.choice((max(0, count - 1), count, count + 1, min(count, MOST_WEIGHTS), 0, MOST_WEIGHTS - 1, MOST_WEIGHTS, MOST_WEIGHTS,
+                     MOST_WEIGHTS, MOST_WEIGHTS + 1, r.randint(0, MOST_WEIGHTS + 10)))
 
 
 def reader_call(r):
@@ -181,7 +185,7 @@ def word_call(r):
     sheet = random_sheets.good(r) if r.random() < 0.7 else random_sheets.sheet(r)
     if r.random() < 0.8:
         sheet = random_sheets.change_number(r, sheet)
-    places = r.choice((random_places(r, sheet), 500, r.choice(HUGE)))
+    places = r.choice((random_places(r, sheet), MOST_WEIGHTS, r.choice(HUGE)))
     read = read_sheet(sheet, places)
     outcome = ("word" if read.word else "empty word") if read.number == 24 else "none"
     return Call("claimtotals_faulty_word", [
@@ -196,27 +200,29 @@ def curve_rows(r):
     """Lows and highs of a curve, if the job is accepted."""
     job = good_job(r)
     job.last = min(job.last, 30)
-    lent = Lent(*([0] * (job.last + 1) for _ in range(3)), [0] * (9 * (job.last + 1)))
+    lent = Lent(*([0] * (job.last + 1) for _ in range(3)), [0] * (WORK_COLUMNS * (job.last + 1)))
     curve(job, lent)
     return lent.low, lent.high
 
 
 def spread_rows(r):
     """Of any length, with lows that come to about U."""
-    count = r.choice((1, 2, r.randint(1, 40), r.randint(1, 501), 500, 501))
+    count = r.choice((1, 2, r.randint(1, 40), r.randint(1, MOST_TOTALS), MOST_TOTALS - 1, MOST_TOTALS))
     low = [r.randint(0, 2 * UNIT // count) for _ in range(count)]
     return low, [entry + r.choice((0, 0, 1, 3)) for entry in low]
 
 
 def signed_rows(r):
     """Sums that go up and down, with entries at the limits too."""
-    pairs = [sorted(r.choice((-END, END, 0, r.randint(-END, END), r.randint(-9, UNIT))) for _ in "lh") for _ in range(r.randint(1, 60))]
+    def end():
+        return r.choice((-MOST_END, MOST_END, 0, r.randint(-MOST_END, MOST_END), r.randint(-9, UNIT)))
+    pairs = [sorted((end(), end())) for _ in range(r.randint(1, 60))]
     return [low for low, _ in pairs], [high for _, high in pairs]
 
 
 def wrong_entry(r, low, high):
     row = r.choice((low, high))
-    size = r.choice((END - 1, END, END + 1, END + 1, 2 ** 32, MOST))
+    size = r.choice((*near(MOST_END), 2 ** 32, MOST))
     if row:
         row[r.randrange(len(row))] = r.choice((size, -size, LEAST, MOST, 0))
 
@@ -235,7 +241,7 @@ def other_length(r, low, high):
 
 def long_rows(r, low, high):
     """At the limit and past it, both equally long."""
-    length = r.choice((500, 501, 502, 503))
+    length = MOST_TOTALS + r.choice((-1, 0, 1, 2))
     for row in low, high:
         row[:] = (row + [r.choice((0, 0, 1))] * length)[:length]
 

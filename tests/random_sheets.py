@@ -7,8 +7,7 @@ from decimal import Decimal
 from fractions import Fraction
 from typing import NamedTuple
 
-from outward import UNIT
-from sheet import MOST_BYTES
+from limits import LAST_TOTAL, MOST_BYTES, MOST_DIVISOR, MOST_ORDER, MOST_SUM, MOST_TERM, MOST_WEIGHTS, UNIT
 
 GREATEST_NUMBER = 9_999_999_999
 
@@ -92,24 +91,25 @@ def named_law(r):
 
 def free_law(r):
     """D, terms and start of no known law."""
-    size = r.choice((1, 3, 30, 300, 1000))
-    terms = [(r.randint(-size, size), r.randint(-size, size)) for _ in range(r.randint(1, 4))]
+    size = r.choice((1, 3, 30, 300, MOST_TERM))
+    terms = [(r.randint(-size, size), r.randint(-size, size)) for _ in range(r.randint(1, MOST_ORDER))]
     low = r.randint(0, r.choice((3, 1000, UNIT)))
-    return r.choice((1, 2, 7, 100, 1000)), terms, (low, min(UNIT, low + r.choice((0, 1, 1, 5, UNIT // 2))))
+    return r.choice((1, 2, 7, 100, MOST_DIVISOR)), terms, (low, min(UNIT, low + r.choice((0, 1, 1, 5, UNIT // 2))))
 
 
 def table(r, count):
-    """Weights that sum to 1 to 1,000, and often to 1,000."""
-    weights = [r.choice((0, 1, r.randint(0, 1000 // count))) for _ in range(count)]
+    """Weights with a good sum, often the greatest."""
+    weights = [r.choice((0, 1, r.randint(0, MOST_SUM // count))) for _ in range(count)]
     if sum(weights) == 0 or r.random() < 0.3:
-        weights[r.randrange(count)] += 1000 - sum(weights)
+        weights[r.randrange(count)] += MOST_SUM - sum(weights)
     return weights
 
 
 def sizes(r):
     """m and X: small, now and then large, as large ones take the calculator long."""
     if r.random() < 0.015:
-        return r.choice(((500, 500), (500, 499), (499, 500), (501, 1), (r.randint(1, 500), r.randint(0, 500))))
+        return r.choice(((MOST_WEIGHTS, LAST_TOTAL), (MOST_WEIGHTS, LAST_TOTAL - 1), (MOST_WEIGHTS - 1, LAST_TOTAL), (MOST_WEIGHTS + 1, 1),
+                         (r.randint(1, MOST_WEIGHTS), r.randint(0, LAST_TOTAL))))
     return r.choice((1, 2, r.randint(1, 8), r.randint(1, 40))), r.choice((0, 1, r.randint(0, 12), r.randint(0, 12), r.randint(0, 60)))
 
 
@@ -130,31 +130,36 @@ def free(r):
 def at_edge(r):
     """Claims of size 1 and one term A_i: the amount at total i is A_i times the start, near 2U or -2U, or has its bound near U. By 3 and
     -3 it meets 2U + 1 and its negative."""
-    order, i = r.randint(1, 4), r.randint(1, 4)
-    factor = r.choice((1, 2, 3, 3, 4, 5, 125, 1000))
+    order, i = r.randint(1, MOST_ORDER), r.randint(1, MOST_ORDER)
+    factor = r.choice((1, 2, 3, 3, 4, 5, 125, MOST_TERM))
     terms = [(0, 0)] * max(order, i)
     terms[i - 1] = (r.choice((factor, -factor)), 0)
     near = r.randint(-1, 1)
     high = min(UNIT, 2 * UNIT // factor + near)
     start = r.choice(((high, high), (high - 1, high), (0, min(UNIT, UNIT // factor + near))))
-    return Parts(1, terms, start, r.randint(0, 6), [r.choice((1, 1000))])
+    return Parts(1, terms, start, r.randint(0, 6), [r.choice((1, MOST_SUM))])
 
 
 def wide(r):
     """One large claim size and the largest terms: towards the last total the sums are as large as they come."""
-    size = r.choice((100, 125, 166, 250, 500))
-    terms = [(r.choice((-1000, 1000)), r.choice((-1000, 1000))) for _ in range(r.randint(1, 4))]
+    size = r.choice((100, 125, 166, 250, MOST_WEIGHTS))
+    terms = [(r.choice((-MOST_TERM, MOST_TERM)), r.choice((-MOST_TERM, MOST_TERM))) for _ in range(r.randint(1, MOST_ORDER))]
     start = r.choice(((UNIT, UNIT), (UNIT - 1, UNIT), (UNIT // 2, UNIT)))
-    return Parts(r.choice((999, 1000)), terms, start, 500, [0] * (size - 1) + [1000])
+    return Parts(r.choice((MOST_DIVISOR - 1, MOST_DIVISOR)), terms, start, LAST_TOTAL, [0] * (size - 1) + [MOST_SUM])
+
+
+def near(limit):
+    """Just inside a limit, on it, and just outside, which is meant to come twice as often."""
+    return limit - 1, limit, limit + 1, limit + 1
 
 
 def limit_divisor(r, parts):
-    parts.divisor = r.choice((0, 1, 999, 1000, 1001, GREATEST_NUMBER))
+    parts.divisor = r.choice((0, 1, MOST_DIVISOR - 1, MOST_DIVISOR, MOST_DIVISOR + 1, GREATEST_NUMBER))
 
 
 def limit_term(r, parts):
     i = r.randrange(len(parts.terms))
-    number = r.choice((-1, 1)) * r.choice((0, 999, 1000, 1001, 1001, GREATEST_NUMBER))
+    number = r.choice((-1, 1)) * r.choice((0, *near(MOST_TERM), GREATEST_NUMBER))
     a, b = parts.terms[i]
     parts.terms[i] = r.choice(((number, b), (a, number)))
 
@@ -167,7 +172,7 @@ def limit_start(r, parts):
 def limit_sum(r, parts):
     y = r.randrange(len(parts.weights))
     others = sum(parts.weights) - parts.weights[y]
-    parts.weights[y] = r.choice((max(0, 999 - others), 1000 - others, 1001 - others, GREATEST_NUMBER))
+    parts.weights[y] = r.choice((max(0, MOST_SUM - 1 - others), MOST_SUM - others, MOST_SUM + 1 - others, GREATEST_NUMBER))
 
 
 def no_sum(r, parts):
@@ -175,7 +180,7 @@ def no_sum(r, parts):
 
 
 def limit_last(r, parts):
-    parts.last = r.choice((0, 499, 500, 501, GREATEST_NUMBER))
+    parts.last = r.choice((0, LAST_TOTAL - 1, LAST_TOTAL, LAST_TOTAL + 1, GREATEST_NUMBER))
 
 
 def at_limits(r):
@@ -244,7 +249,7 @@ def another_number(r, word):
     """Near the number, too long, at a limit, or what a machine word of 32 or 64 bits would take for the number."""
     value = int(word) if len(word) <= 20 else 0
     return b"%d" % r.choice((value - 1, value + 1, value + 2 ** 32, value + 2 ** 64, GREATEST_NUMBER, -GREATEST_NUMBER, GREATEST_NUMBER + 1,
-                             0, 5, 501, 1001))
+                             0, MOST_ORDER + 1, MOST_WEIGHTS + 1, MOST_SUM + 1))
 
 
 def change_number(r, sheet):
@@ -259,7 +264,7 @@ def change_number(r, sheet):
 def other_count(r, sheet):
     """k or m is another number than that of the lines."""
     keyword = r.choice((b"LAW ", b"SEVERITY "))
-    count = r.choice((0, 1, 2, 4, 5, 500, 501, 2 ** 32 + 1, GREATEST_NUMBER))
+    count = r.choice((0, 1, 2, MOST_ORDER, MOST_ORDER + 1, MOST_WEIGHTS, MOST_WEIGHTS + 1, 2 ** 32 + 1, GREATEST_NUMBER))
     return re.sub(keyword + rb"[0-9]+", keyword + b"%d" % count, sheet, count=1)
 
 

@@ -5,15 +5,14 @@ import random
 import re
 from typing import NamedTuple
 
+from limits import MOST_BYTES, MOST_ORDER, MOST_WEIGHTS as WEIGHTS
 from random_sheets import GREATEST_NUMBER, Parts
-from sheet import MOST_BYTES
 
 SEED = 1
-WEIGHTS = 500
-ROWS = (0, 499, 500, 501)
+ROWS = (0, WEIGHTS - 1, WEIGHTS, WEIGHTS + 1)
 
 # Every fault of a weight line stands at the first weight, at a middle one and at the last.
-FAULTY_WEIGHTS = (1, 250, 500)
+FAULTY_WEIGHTS = (1, WEIGHTS // 2, WEIGHTS)
 
 
 class Case(NamedTuple):
@@ -61,11 +60,11 @@ def all_good(r):
         f"weights {GREATEST_NUMBER}": [GREATEST_NUMBER] * WEIGHTS,
         f"weights 0 and {GREATEST_NUMBER} by turns": [0, GREATEST_NUMBER] * (WEIGHTS // 2),
         "weights next to powers of 10 and 2": (edges * WEIGHTS)[:WEIGHTS],
-        **{f"m is {count}, weights of any length": numbers(r, count) for count in (1, 2, 499)},
+        **{f"m is {count}, weights of any length": numbers(r, count) for count in (1, 2, WEIGHTS - 1)},
     }
     for i, (name, weights) in enumerate(tables.items()):
-        yield f"good: {name}", good(r, 1 + i % 4, weights), len(weights)
-    for order in range(1, 5):
+        yield f"good: {name}", good(r, 1 + i % MOST_ORDER, weights), len(weights)
+    for order in range(1, MOST_ORDER + 1):
         for letter in "abc":
             yield f"good: order {order}, weights of any length, {letter}", good(r, order, numbers(r, WEIGHTS)), WEIGHTS
 
@@ -156,7 +155,7 @@ TWO_FAULTS = (
 def two_faults(sheets):
     faults = line_faults()
     for i, names in enumerate(TWO_FAULTS):
-        for weights in (1, 500), (250, 251), (499, 500):
+        for weights in (1, WEIGHTS), (WEIGHTS // 2, WEIGHTS // 2 + 1), (WEIGHTS - 1, WEIGHTS):
             sheet = sheets[i % len(sheets)]
             for weight, name in zip(weights, names):
                 sheet = with_fault(sheet, weight, faults[name])
@@ -183,12 +182,13 @@ def other_number(sheet, keyword, told):
 
 
 def limits(sheet):
-    for order in 0, 5, 2 ** 32 + 1, GREATEST_NUMBER:
+    for order in 0, MOST_ORDER + 1, 2 ** 32 + 1, GREATEST_NUMBER:
         yield f"k is {order}", other_number(sheet, b"LAW", order)
-    for count in 0, 501, 2 ** 32 + 500, GREATEST_NUMBER:
+    for count in 0, WEIGHTS + 1, 2 ** 32 + WEIGHTS, GREATEST_NUMBER:
         yield f"m is {count}", other_number(sheet, b"SEVERITY", count)
-    yield "m is 501, and so many weights", other_number(sheet, b"SEVERITY", 501) + b"W 105\n"
-    yield "k is 5, and weight 1 has a leading zero", other_number(with_fault(sheet, 1, line_faults()["leading zero"]), b"LAW", 5)
+    yield f"m is {WEIGHTS + 1}, and so many weights", other_number(sheet, b"SEVERITY", WEIGHTS + 1) + b"W 105\n"
+    faulty = with_fault(sheet, 1, line_faults()["leading zero"])
+    yield f"k is {MOST_ORDER + 1}, and weight 1 has a leading zero", other_number(faulty, b"LAW", MOST_ORDER + 1)
 
 
 def filled(sheet, at, byte, size):
@@ -203,7 +203,7 @@ def bytes_behind(sheet):
     for name, more in behind.items():
         yield f"behind the last line: {name}", sheet + more
     yield f"behind the last line: digits, {MOST_BYTES} bytes in all", filled(sheet, len(sheet), b"5", MOST_BYTES)
-    for count in 1, 499:
+    for count in 1, WEIGHTS - 1:
         yield f"m is {count}, with {WEIGHTS} weights", other_number(sheet, b"SEVERITY", count)
 
 
@@ -228,6 +228,6 @@ def cases():
     for name, sheet, count in all_good(r):
         for places in sorted({*ROWS, count - 1, count}):
             yield Case(name, sheet, places)
-    for name, sheet in faulty([good(r, order, numbers(r, WEIGHTS)) for order in range(1, 5)]):
+    for name, sheet in faulty([good(r, order, numbers(r, WEIGHTS)) for order in range(1, MOST_ORDER + 1)]):
         for places in ROWS:
             yield Case(name, sheet, places)
