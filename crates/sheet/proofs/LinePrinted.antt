@@ -1,8 +1,8 @@
 -- A printed line reads back: its line end is the first, its words are the keyword and the numbers, and each number reads back. It is short
 -- since each number has at most 11 bytes.
-use mathlib.Core.Path.{_≡_, refl, _∙_}
-use mathlib.Core.Bool.{Bool, true, false, not}
-use mathlib.Core.List.{List, [], _∷_, _++_, map, append-assoc}
+use mathlib.Core.Path.{_≡_, refl}
+use mathlib.Core.Bool.{Bool, true, false}
+use mathlib.Core.List.{List, [], _∷_, _++_, map}
 use mathlib.Core.Option.{some}
 use Prim.Native.Nat.{ℕ, _+_, _*_, _≤_}
 use native.Mathlib.Omega.{arith}
@@ -10,14 +10,14 @@ use borrow.Author.Tests.{eq-eqb}
 use lib.Dec.{eqb}
 use lib.IntN.{ℤ, pos, negsuc}
 use lib.ListN.{length, length-append, length-map}
-use Rattle.algebra.specs.Table.{every}
 use Rattle.algebra.proofs.Table.{same-itself}
 use Rattle.text.specs.Bytes.{lineEnd, space}
 use Rattle.text.specs.Lines.{has, spaced}
 use Rattle.text.specs.Numbers.{AtMostTenDigits, signFits, decimal}
 use Rattle.text.specs.Output.{lineText}
-use Rattle.text.proofs.Words.{has-append, first-after, words-of-joined}
-use Rattle.text.proofs.Decimal.{decimal-plain, decimal-length, decimal-is-number}
+use Rattle.text.proofs.Words.{words-of-joined}
+use Rattle.text.proofs.Decimal.{decimal-length, decimal-is-number}
+use Rattle.text.proofs.LineText.{no-space, line-text-first}
 use Rattle.sheet.specs.Line.{numbers, allNumbers, line}
 
 -- ---- numbers that a line can hold: at most 10 digits each, and a sign only where it may be
@@ -39,18 +39,6 @@ pub two-signed : (y z : ℤ) → AtMostTenDigits y → AtMostTenDigits z → Hel
 two-signed y z c d = more c (any-sign y) (more d (any-sign z) none)
 
 -- ---- the numbers of a line
--- none of them has a space
-no-space : (zs : List ℤ) → every (λ v. not (has space v)) (map decimal zs) ≡ true
-no-space [] = refl
-no-space (z ∷ zs) = rw (decimal-plain space (omega arith) z) (no-space zs)
-
--- nor a line end
-no-line-end : (zs : List ℤ) → has lineEnd (spaced (map decimal zs)) ≡ false
-unfolding has spaced
-no-line-end [] = refl
-no-line-end (z ∷ zs) =
-    rw (has-append lineEnd (decimal z) (spaced (map decimal zs)), decimal-plain lineEnd (omega arith) z) (no-line-end zs)
-
 module _ {signs : Bool} where
   all-numbers : {zs : List ℤ} → Held signs zs → allNumbers signs (map decimal zs) ≡ some zs
   unfolding allNumbers
@@ -67,11 +55,10 @@ module _ (keyword : List ℕ) {signs : Bool} {zs : List ℤ} (held : Held signs 
   -- the keyword is one word, which computes for those of a sheet
   pub line-printed : has space keyword ≡ false → has lineEnd keyword ≡ false → (rest : List ℕ)
       → line signs keyword (length zs) (lineText keyword zs ++ rest) ≡ numbers zs rest
-  unfolding lineText line
+  unfolding line
   line-printed one-word one-line rest =
-      let end = first-after lineEnd (keyword ++ fields) rest plain in
+      let end = line-text-first keyword zs rest one-line in
       rw (
-        regrouped,
         end .0,
         end .1,
         end .2,
@@ -81,15 +68,6 @@ module _ (keyword : List ℕ) {signs : Bool} {zs : List ℤ} (held : Held signs 
         eq-eqb (length zs) (length zs) refl,
         all-numbers held,
       )
-    where
-      fields : List ℕ
-      fields = spaced (map decimal zs)
-
-      plain : has lineEnd (keyword ++ fields) ≡ false
-      plain = has-append lineEnd keyword fields ∙ rw (one-line, no-line-end zs)
-
-      regrouped : (keyword ++ (fields ++ (lineEnd ∷ []))) ++ rest ≡ (keyword ++ fields) ++ (lineEnd ∷ rest)
-      regrouped = simp append-assoc
 
   pub line-length : length (lineText keyword zs) ≤ length keyword + 12 * length zs + 1
   unfolding lineText

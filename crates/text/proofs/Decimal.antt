@@ -1,8 +1,8 @@
 -- A written number reads back, since its last digit is the last that is read. A word that is read is written again, byte after byte: each
 -- byte is the last digit of the number so far.
 use mathlib.Core.Path.{_≡_, refl, sym, ap, _∙_, subst}
-use mathlib.Core.Bool.{Bool, true, false, _&&_, _||_, not, cond, false≢true, or-true, and-false, and-eq-true-iff}
-use mathlib.Core.List.{List, [], _∷_, _++_, append-nil, append-assoc}
+use mathlib.Core.Bool.{Bool, true, false, _&&_, _||_, not, cond, true≢false, false≢true, or-true, and-false, and-eq-true-iff}
+use mathlib.Core.List.{List, [], _∷_, _++_, append-nil, append-assoc, tail-eq-of-cons-eq}
 use mathlib.Core.Option.{Option, none, some, Option·some-injective, Option·none-ne-some}
 use Prim.Native.Nat.{ℕ, zero, suc, _+_, _-_, _*_, _/_, _%_, _^_, _≤_, _<_}
 use native.Mathlib.Nat as NL
@@ -17,7 +17,7 @@ use Rattle.algebra.proofs.Table.{every-append}
 use Rattle.text.specs.Lines.{has}
 use Rattle.text.specs.Numbers.{zeroDigit, isDigit, minus, startsWith, isNumeral, valueFrom, value, negativeOf, number}
 use Rattle.text.specs.Numbers.{digit, digitsWithin, digits, decimal, AtMostTenDigits}
-use Rattle.text.specs.Numbers.{IsDecimal, NumberIsDecimal, DecimalIsNumber, NumberExactly}
+use Rattle.text.specs.Numbers.{IsDecimal, NumberIsDecimal, DecimalIsNumber, NumberExactly, DecimalInjective}
 use Rattle.text.proofs.Read.{digit-range, numeral-tests}
 use Rattle.text.proofs.Words.{has-append}
 
@@ -244,3 +244,19 @@ number-exactly signs w = (
     by : (o : Option ℤ) → number signs w ≡ o → ((z : ℤ) → IsDecimal signs w z → ⊥) → o ≡ none
     by none e h = refl
     by (some z) e h = absurd (h z (number-is-decimal signs w z e))
+
+-- ---- no two numbers have the same text
+digits-injective : (m n : ℕ) → digits m ≡ digits n → m ≡ n
+digits-injective m n e = sym (value-digits 19 m) ∙ ap value e ∙ value-digits 19 n
+
+-- a minus sign tells numbers below zero from the others
+signs-differ : (m n : ℕ) → digits m ≡ minus ∷ digits n → ⊥
+unfolding has
+signs-differ m n e = true≢false (sym (ap (has minus) e) ∙ digits-plain minus (omega arith) 19 m)
+
+pub decimal-injective : DecimalInjective
+unfolding decimal
+decimal-injective (pos m) (pos n) e = ap pos (digits-injective m n e)
+decimal-injective (pos m) (negsuc n) e = absurd (signs-differ m (suc n) e)
+decimal-injective (negsuc m) (pos n) e = absurd (signs-differ n (suc m) (sym e))
+decimal-injective (negsuc m) (negsuc n) e = ap negsuc (NL.suc-inj (digits-injective (suc m) (suc n) (tail-eq-of-cons-eq e)))

@@ -3,6 +3,8 @@
 pub mod Scan
 pub mod Read
 pub mod Words
+pub mod Appended
 pub mod Decimal
+pub mod LineText
 pub mod Leading
 pub mod Put

@@ -2,7 +2,7 @@
 use mathlib.Core.Path.{_≡_}
 use mathlib.Core.Bool.{Bool, true, false, not, cond}
 use mathlib.Core.List.{List, [], _∷_, _++_}
-use Prim.Native.Nat.{ℕ, zero, suc, _-_}
+use Prim.Native.Nat.{ℕ, zero, suc, _+_, _-_}
 use lib.Dec.{eqb}
 use lib.ListN.{length, drop}
 use Rattle.algebra.specs.Table.{every}
@@ -36,6 +36,11 @@ lineAt n s = before lineEnd (afterLines (n - 1) s)
 abbrev pub lineStart : ℕ → List ℕ → ℕ
 lineStart n s = length s - length (afterLines (n - 1) s)
 
+-- s is n lines, each with its line end, and nothing more
+unfoldable pub IsLines : ℕ → List ℕ → Type 0
+IsLines zero s = s ≡ []
+IsLines (suc n) s = (has lineEnd s ≡ true) × IsLines n (after lineEnd s)
+
 -- ---- words
 -- one byte more at the front of the first word
 unfoldable pub longer : ℕ → List (List ℕ) → List (List ℕ)
@@ -65,6 +70,14 @@ FirstAfter = (b : ℕ) (s rest : List ℕ) → has b s ≡ false
 -- line n begins there
 abbrev pub LineStarts : Type 0
 LineStarts = (n : ℕ) (s : List ℕ) → drop (lineStart n s) s ≡ afterLines (n - 1) s
+
+-- m lines and n lines are m + n lines
+abbrev pub LinesAppend : Type 0
+LinesAppend = (m n : ℕ) (s t : List ℕ) → IsLines m s → IsLines n t → IsLines (m + n) (s ++ t)
+
+-- and the text that is appended to m lines is what follows them
+abbrev pub LinesFollowed : Type 0
+LinesFollowed = (m : ℕ) (s t : List ℕ) → IsLines m s → afterLines m (s ++ t) ≡ t
 
 -- a line is its words with single spaces between them
 abbrev pub WordsJoined : Type 0

@@ -99,3 +99,7 @@ IsDecimal signs w z = (w ≡ decimal z) × AtMostTenDigits z × (signFits signs 
 abbrev pub NumberExactly : Type 0
 NumberExactly = (signs : Bool) (w : List ℕ)
     → ((z : ℤ) → (number signs w ≡ some z) ↔ IsDecimal signs w z) × ((number signs w ≡ none) ↔ ((z : ℤ) → IsDecimal signs w z → ⊥))
+
+-- no two numbers have the same decimal text
+abbrev pub DecimalInjective : Type 0
+DecimalInjective = (y z : ℤ) → decimal y ≡ decimal z → y ≡ z
