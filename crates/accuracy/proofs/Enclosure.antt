@@ -15,7 +15,7 @@ use Rattle.algebra.proofs.Order.{add-mono, mul-mono, mul-turn, mul-cancel-le, i
 use Rattle.algebra.proofs.Value.{order, ℚ, value, value-le, le-of-value, value-int}
 use Rattle.exact.specs.Frequency.{Frequency}
 use Rattle.exact.specs.Severity.{Severity}
-use Rattle.exact.specs.Recursion.{factor as exactFactor}
+use Rattle.exact.specs.Recursion.{wholeFactor}
 use Rattle.exact.proofs.Amount.{valueRow, value-amount}
 use Rattle.exact.proofs.Recursion.{recursion-value, convolution-value, first-value, first-further}
 use Rattle.outward.proofs.Division.{floor-is, ceil-is}
@@ -121,7 +121,7 @@ module _ (job : Job) (weights : List ℕ) (h : Divisible job weights) (p : Fract
   first-within (suc j) = rw first-further within-none
 
   exact-follows : Follows enclosing job weights (valueRow law table p)
-  unfolding factor divisorZero exactFactor int
+  unfolding factor divisorZero wholeFactor int
   exact-follows = record {
     first = λ j _. first-within j;
     row-zero = λ x _. recursion-value law table p (suc x);

@@ -18,7 +18,7 @@ use Rattle.outward.specs.Division.{ceilDiv}
 use Rattle.outward.proofs.Division.{ceil-size}
 use Rattle.enclosure.specs.declared.Entry.{Entry}
 use Rattle.enclosure.specs.declared.term.Factor.{Factor}
-use Rattle.model.specs.Limits.{unit}
+use Rattle.model.specs.Limits.{unit, mostLast}
 use Rattle.enclosure.specs.Entry.{plus, scaled}
 use Rattle.enclosure.specs.Term.{TermRoom, Small, lineAt, lineFactor, termAt, termSums}
 use Rattle.enclosure.specs.Run.{FactorSmall, EntryFits}
@@ -72,13 +72,13 @@ module _ (f : Factor) (h : FactorSmall f) where
   pub slope-fits : SFits w64 (f .slope)
   slope-fits = size-fits w64 (f .slope) (omega (arith, h .slope-small))
 
-  pub slope-size : (y : ℕ) → y ≤ 500 → natAbs (f .slope *ℤ pos y) ≤ 500000
-  slope-size y l = size-mul-le (f .slope) (pos y) 1000 500 (h .slope-small) l
+  pub slope-size : (y : ℕ) → y ≤ mostLast → natAbs (f .slope *ℤ pos y) ≤ 500000
+  slope-size y l = size-mul-le (f .slope) (pos y) 1000 mostLast (h .slope-small) l
 
-  pub line-size : (y : ℕ) → y ≤ 500 → natAbs (lineAt f y) ≤ 1000000
+  pub line-size : (y : ℕ) → y ≤ mostLast → natAbs (lineAt f y) ≤ 1000000
   line-size y l = omega (arith, size-add (f .slope *ℤ pos y) (f .constant), slope-size y l, h .constant-small)
 
-  pub factor-size : (weights : List ℕ) (y : ℕ) → y < 500 → natAbs (lineFactor f weights y) ≤ getD weights y 0 * 1000000
+  pub factor-size : (weights : List ℕ) (y : ℕ) → y < mostLast → natAbs (lineFactor f weights y) ≤ getD weights y 0 * 1000000
   factor-size weights y l = omega (
     arith,
     size-mul-le (lineAt f (y + 1)) (pos (getD weights y 0)) 1000000 (getD weights y 0) (line-size (y + 1) (omega arith)) (NL.le-refl _),

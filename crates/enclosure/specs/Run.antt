@@ -14,7 +14,7 @@ use Rattle.enclosure.specs.declared.Entry.{Entry}
 use Rattle.enclosure.specs.declared.raised.Raised.{Raised}
 use Rattle.enclosure.specs.declared.run.Run.{Run}
 use Rattle.enclosure.specs.declared.term.Factor.{Factor}
-use Rattle.model.specs.Limits.{unit}
+use Rattle.model.specs.Limits.{unit, mostLast}
 use Rattle.enclosure.specs.Entry.{none, plus}
 use Rattle.enclosure.specs.Term.{Small, lineAt, lineFactor, termAt}
 
@@ -85,7 +85,7 @@ lowered r =
 -- the limits of a term, and a line that is zero or more on the run
 pub record RunRoom (f : Factor) (from to x : ℕ) (weights : List ℕ) (row : ℕ → Entry) : Type 0 where
   pub factor-small : FactorSmall f
-  pub x-small : x ≤ 500
+  pub x-small : x ≤ mostLast
   pub weights-small : totalWeight weights ≤ 1000
   pub row-small : (z : ℕ) → z < x → Small (row z)
   pub in-order : from ≤ to

@@ -9,6 +9,7 @@ ghost use mathlib.Core.Bool.{false};
 ghost use Prim.Native.Nat.{_≤_, min};
 ghost use lib.IntN.{pos};
 ghost use lib.Signed.{_≤ℤ_};
+ghost use Rattle.model.specs.Limits.{mostLast};
 ghost use Rattle.enclosure.specs.Term.{lineAt};
 ghost use Rattle.enclosure.specs.Run.{FactorSmall, FirstRun};
 
@@ -27,7 +28,7 @@ pub fn smaller(a: usize, b: usize) -> usize
 
 // Where a line that is zero or more at severity 1 stays so: up to this severity, `last` at most.
 fn run_end(factor: Factor, last: usize) -> usize
-    requires { ⌜ FactorSmall factor × (last ≤ 500) × (pos 0 ≤ℤ lineAt factor 1) ⌝ }
+    requires { ⌜ FactorSmall factor × (last ≤ mostLast) × (pos 0 ≤ℤ lineAt factor 1) ⌝ }
     ensures { λ r. ⌜ FirstRun factor last (record { from = 0; to = r; negative = false }) ⌝ }
 {
     if 0 <= factor.slope {
@@ -39,7 +40,7 @@ fn run_end(factor: Factor, last: usize) -> usize
 
 // The first run of the severities 1 to `last`.
 pub fn first_run(factor: Factor, last: usize) -> Run
-    requires { ⌜ FactorSmall factor × (last ≤ 500) ⌝ }
+    requires { ⌜ FactorSmall factor × (last ≤ mostLast) ⌝ }
     ensures { λ r. ⌜ FirstRun factor last r ⌝ }
 {
     if line_at(factor, 1) < 0 {

@@ -2,6 +2,7 @@
 
 ghost use mathlib.Core.Path.{_≡_};
 ghost use Prim.Native.Nat.{_≤_};
+ghost use Rattle.model.specs.Limits.{mostLast};
 ghost use Rattle.enclosure.specs.Term.{lineAt};
 ghost use Rattle.enclosure.specs.Run.{FactorSmall, negative};
 
@@ -13,7 +14,7 @@ pub struct Factor {
 
 // The line at severity `y`.
 pub fn line_at(factor: Factor, y: usize) -> i64
-    requires { ⌜ FactorSmall factor × (y ≤ 500) ⌝ }
+    requires { ⌜ FactorSmall factor × (y ≤ mostLast) ⌝ }
     ensures { λ r. ⌜ r ≡ lineAt factor y ⌝ }
 {
     factor.slope * y as i64 + factor.constant

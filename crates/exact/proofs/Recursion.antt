@@ -16,7 +16,7 @@ use Rattle.exact.specs.Frequency.{Frequency, a, b, countCoefficient}
 use Rattle.exact.specs.Severity.{Severity, weight, density, convolution}
 use Rattle.model.specs.Table.{totalWeight}
 use Rattle.exact.specs.Amount.{exactAmount}
-use Rattle.exact.specs.Recursion.{PublishedRecursion, RowRecursion, factor, WholeRecursion, WholeConvolution, FirstEntries}
+use Rattle.exact.specs.Recursion.{PublishedRecursion, RowRecursion, wholeFactor, WholeRecursion, WholeConvolution, FirstEntries}
 use Rattle.algebra.proofs.Value.{order, ℚ, value, eq-of-value, value-plus, value-times, value-oneTo}
 use Rattle.algebra.proofs.Value.{value-int, value-nat, value-zero, value-one, value-over, value-overSuc}
 use Rattle.exact.proofs.Convolution.{convolve}
@@ -43,9 +43,9 @@ cleared D W x y a b f e A′ B′ w p q r =
 turned : (D x W e : A) → D · x · W · e ≡ D · W · (x · e)
 turned D x W e = simp ring
 
-int-factor : (law : Frequency) (table : Severity) (x i y : ℕ) → integer (factor law table x i y)
+int-factor : (law : Frequency) (table : Severity) (x i y : ℕ) → integer (wholeFactor law table x i y)
     ≡ (integer (law .termA i) · nat ℚ x ⊹ integer (law .termB i) · nat ℚ y) · nat ℚ (weight table y)
-unfolding factor
+unfolding wholeFactor
 int-factor law table x i y = simp (int-mul, int-add, int-pos)
 
 -- past the table's end there is no weight
@@ -103,7 +103,7 @@ module _ (law : Frequency) (table : Severity) (p : Fraction) where
 
   pub recursion-value : (x : ℕ) → nat ℚ (law .divisor * x * totalWeight (table .weights)) · E 0 x
       ≡ sum ℚ (law .order) (λ i. sum ℚ (min x (length (table .weights))) (λ y.
-      integer (factor law table x (suc i) (suc y)) · E i (x - suc y)))
+      integer (wholeFactor law table x (suc i) (suc y)) · E i (x - suc y)))
   unfolding D W a b
   recursion-value x =
       ap (λ (v : A). v · E 0 x) (nat-mul ℚ (law .divisor * x) (totalWeight (table .weights))
@@ -118,7 +118,7 @@ module _ (law : Frequency) (table : Severity) (p : Fraction) where
       fractional i y = (nat ℚ x · α i ⊹ nat ℚ (suc y) · β i) · f y · E i (x - suc y)
 
       entire : ℕ → ℕ → A
-      entire i y = integer (factor law table x (suc i) (suc y)) · E i (x - suc y)
+      entire i y = integer (wholeFactor law table x (suc i) (suc y)) · E i (x - suc y)
 
       each : (i y : ℕ) → D · W · fractional i y ≡ entire i y
       each i y =

@@ -25,15 +25,15 @@ RowRecursion = (law : Frequency) (table : Severity) (p : Fraction) (x : ℕ)
     (whole (pos x) ⊗ a law i ⊕ whole (pos y) ⊗ b law i) ⊗ density table y ⊗ exactRow law table p (i - 1) (x - y)))
 
 -- "(A_i times x + B_i times y) times w(y)": what multiplies the entry of row i - 1 at x - y
-unfoldable pub factor : Frequency → Severity → ℕ → ℕ → ℕ → ℤ
-factor law table x i y = (law .termA i *ℤ pos x +ℤ law .termB i *ℤ pos y) *ℤ pos (weight table y)
+unfoldable pub wholeFactor : Frequency → Severity → ℕ → ℕ → ℕ → ℤ
+wholeFactor law table x i y = (law .termA i *ℤ pos x +ℤ law .termB i *ℤ pos y) *ℤ pos (weight table y)
 
 -- the row recursion with whole factors: "y from 1 to the smaller of x and m", "The divisor is D times x times W."
 abbrev pub WholeRecursion : Type 0
 WholeRecursion = (law : Frequency) (table : Severity) (p : Fraction) (x : ℕ)
     → whole (pos (law .divisor * x * totalWeight (table .weights))) ⊗ exactAmount law table p x
     ≈ oneTo (law .order) (λ i. oneTo (min x (length (table .weights))) (λ y.
-    whole (factor law table x i y) ⊗ exactRow law table p (i - 1) (x - y)))
+    whole (wholeFactor law table x i y) ⊗ exactRow law table p (i - 1) (x - y)))
 
 -- "Row j ≥ 1 sums w(y) times the entry of row j-1 at x-y. The divisor is W."
 abbrev pub WholeConvolution : Type 0

@@ -28,14 +28,14 @@ zeros-next i row h =
     ∙ ap (λ (front : List ℤ). written front row) (replicate-append-replicate i 1 (pos 0))
 
 -- the row keeps its length
-whole : (c : tie.At-loop Inv-loop μ-loop) → length (c .loop .row) ≡ length (c .before .args .row .now)
-whole c = ap length (c .loop .inv .1) ∙ zeros-length (c .loop .i) (c .before .args .row .now) (search needs)
+same-size : (c : tie.At-loop Inv-loop μ-loop) → length (c .loop .row) ≡ length (c .before .args .row .now)
+same-size c = ap length (c .loop .inv .1) ∙ zeros-length (c .loop .i) (c .before .args .row .now) (search needs)
 
 loop-holds : tie.Need-loop-holds Inv-loop μ-loop
 loop-holds c = (search needs, refl)
 
 slice-set-of-row : tie.Need-slice-set-of-row Inv-loop μ-loop
-slice-set-of-row c = let e = whole (c .before) in search needs
+slice-set-of-row c = let e = same-size (c .before) in search needs
 
 loop-again : tie.Need-loop-again Inv-loop μ-loop
 loop-again c = (
@@ -44,7 +44,7 @@ loop-again c = (
 )
 
 same-length : tie.Need-same-length Inv-loop μ-loop
-same-length c = whole (c .before)
+same-length c = same-size (c .before)
 
 returns : tie.Need-returns Inv-loop μ-loop
 returns c =

@@ -8,6 +8,7 @@ use mir.Syntax.{w64}
 use mir.Val.{SFits}
 use mir.Facts.{toZ-pos}
 use Rattle.algebra.proofs.Size.{size-mul-le, size-fits}
+use Rattle.model.specs.Limits.{mostLast}
 use Rattle.rows.proofs.total.term_factor.Statement.{statement}
 use Rattle.rows.proofs.total.term_factor.Tie as tie
 
@@ -15,7 +16,7 @@ fits : (c : tie.Start) → let t = c .args in (t .x < 2 ^ 63) × SFits w64 (getD
 fits c =
     let t = c .args in (
       omega (arith, c .pre .1),
-      size-fits w64 _ (omega (arith, size-mul-le (getD (t .a .now) (t .i) (pos 0)) (pos (t .x)) 1000 500 (c .pre .2) (c .pre .1))),
+      size-fits w64 _ (omega (arith, size-mul-le (getD (t .a .now) (t .i) (pos 0)) (pos (t .x)) 1000 mostLast (c .pre .2) (c .pre .1))),
     )
 
 pub term-factor-spec : {M : Type 1} → statement M
