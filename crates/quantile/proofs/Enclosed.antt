@@ -7,7 +7,7 @@ use Prim.Native.Nat.{ℕ, _≤_, _<_}
 use native.Mathlib.Nat as NL
 use native.Mathlib.Decide.{decLe}
 use native.Mathlib.Omega.{arith}
-use borrow.Author.Tests.{ltb-false, eqb-false}
+use borrow.Author.Tests.{eqb-false}
 use lib.IntN.{ℤ, pos}
 use lib.Signed.{leZ}
 use lib.ListN.{length, getD}
@@ -16,10 +16,11 @@ use Rattle.algebra.proofs.Smallest.{smallest-finds, least-exists}
 use Rattle.algebra.proofs.Value.{≼-refl, ≼-trans, ≼-dec, zeroTo-mono, whole-mono, whole-le-sum, le-of-whole-sum}
 use Rattle.model.specs.Answer.{Answer, accepted}
 use Rattle.model.proofs.Answer.{passed as condition-passed}
+use Rattle.intervals.specs.Enclosed.{entries, Enclose}
+use Rattle.intervals.proofs.Passed.{Passed, passed}
 use Rattle.quantile.specs.Call.{runningSum, quantileOf, answered, quantiles}
-use Rattle.quantile.specs.Enclosed.{Quantile, QuantileFrom, entries, Enclose, Accepted}
+use Rattle.quantile.specs.Enclosed.{Quantile, QuantileFrom, Accepted}
 use Rattle.quantile.specs.Enclosed.{OneQuantile, RowQuantiles, QuantilesInOrder, QuantileEnclosed, SureReached}
-use Rattle.quantile.proofs.Passed.{Passed, passed}
 
 -- ---- amounts
 -- no sum before total y reaches the level
@@ -76,7 +77,7 @@ module _ (low high : List ℤ) (level : ℤ) (ok : Accepted low high level) wher
       let level = condition-passed _ _ _ _ (rows .1) in
       let entry = condition-passed _ _ _ _ (level .1) in
       let sum = condition-passed _ _ _ _ (entry .1) in
-      (passed low high (rows .0) (ltb-false _ _ (entry .0)), eqb-false _ _ (sum .0))
+      (passed low high (rows .0) (entry .0), eqb-false _ _ (sum .0))
 
   totals : quantiles low high level ≡ record { answer = accepted; sure = sure; possible = possible }
   unfolding quantiles

@@ -4,13 +4,14 @@ use borrow.Author.Tests.{lt-ltb, le-ltb, eq-eqb, ne-eqb}
 use mathlib.Core.Path.{_≡_, sym, _∙_, ap}
 use mathlib.Core.Bool.{false}
 use mathlib.Core.List.{List, []}
-use Prim.Native.Nat.{ℕ, _≤_}
-use lib.ListN.{length, drop}
+use Prim.Native.Nat.{ℕ}
+use lib.ListN.{drop}
 use mir.Facts.{toZ-ofZ}
 use Rattle.model.specs.Answer.{Answer, Condition, firstOf}
 use Rattle.model.proofs.Answer.{first-none, first-holds, first-fails}
-use Rattle.quantile.specs.Call.{Quantiles, quantileOf, wrongLengths, wrongLevel, firstWrong, checks, answered, quantiles}
-use Rattle.quantile.proofs.Passed.{Passed, same-length, passed}
+use Rattle.intervals.specs.Rows.{rowsCondition, entryCondition}
+use Rattle.intervals.proofs.Passed.{Passed, same-length, passed}
+use Rattle.quantile.specs.Call.{Quantiles, quantileOf, wrongLevel, checks, answered, quantiles}
 use Rattle.quantile.proofs.quantile.Statement.{statement}
 use Rattle.quantile.proofs.quantile.Tie as tie
 
@@ -34,7 +35,7 @@ answers c e = sym (ap (totals c) e)
 returns : tie.Need-returns
 returns c = answers (c .before .before) (first-holds _ _ (sym (c .before .are-wrong-rows .ensures) ∙ c .if1 .taken))
 
-right-rows : (c : tie.Else1) → let a = c .before .before .args in wrongLengths (length (a .low .now)) (length (a .high .now)) ≡ false
+right-rows : (c : tie.Else1) → let a = c .before .before .args in rowsCondition (a .low .now) (a .high .now) .holds ≡ false
 right-rows c = sym (c .before .are-wrong-rows .ensures) ∙ c .if1 .left
 
 left-1 : (c : tie.Else1) → Left 1 (c .before .before)
@@ -65,14 +66,14 @@ returns-3 c =
 abbrev start : tie.Else3 → tie.Start
 start c = c .before .before .before .before .before .before
 
-none-wrong : (c : tie.Else3) → let a = start c .args in length (a .low .now) ≤ firstWrong (a .low .now) (a .high .now)
-none-wrong c = rw (c .before .first-wrong-entry .ensures) at (c .if3 .left)
+right-entries : (c : tie.Else3) → let a = start c .args in entryCondition (a .low .now) (a .high .now) .holds ≡ false
+right-entries c = le-ltb _ _ (rw (c .before .first-wrong-entry .ensures) at (c .if3 .left))
 
 left-3 : (c : tie.Else3) → Left 3 (start c)
-left-3 c = left-2 (c .before .before) ∙ first-fails _ _ (le-ltb _ _ (none-wrong c))
+left-3 c = left-2 (c .before .before) ∙ first-fails _ _ (right-entries c)
 
 rows : (c : tie.Else3) → Passed (start c .args .low .now) (start c .args .high .now)
-rows c = passed _ _ (right-rows (c .before .before .before .before)) (none-wrong c)
+rows c = passed _ _ (right-rows (c .before .before .before .before)) (right-entries c)
 
 -- 34, the sums of lows
 quantile-of-requires : tie.Need-quantile-of-requires
