@@ -17,12 +17,14 @@ use Rattle.algebra.proofs.Smallest.{smallest-none}
 use Rattle.algebra.proofs.Value.{≼-refl, ≼-trans, whole-mono, le-of-whole}
 use Rattle.model.specs.declared.Job.{Job}
 use Rattle.model.specs.Answer.{condition, firstOf}
+use Rattle.model.specs.Limits.{mostTotals}
 use Rattle.model.proofs.Tests.{inside}
 use Rattle.rows.specs.Layout.{Lent}
 use Rattle.compound.specs.Call.{curveLent}
 use Rattle.compound.proofs.Accepted.{limits, entry-small, lows-long, highs-long}
-use Rattle.quantile.specs.Call.{wrongLengths, wrongLevel, wrongAt, firstWrong, unreached, quantiles}
-use Rattle.quantile.specs.Enclosed.{Enclose}
+use Rattle.intervals.specs.Rows.{wrongLengths, wrongAt, firstWrong}
+use Rattle.intervals.specs.Enclosed.{Enclose}
+use Rattle.quantile.specs.Call.{wrongLevel, unreached, quantiles}
 use Rattle.quantile.proofs.Enclosed.{quantile-enclosed}
 use Rattle.accuracy.specs.Accuracy.{Accepted, shown}
 use Rattle.exact.specs.JobAmount.{Divisible, amount}
@@ -56,7 +58,7 @@ module _ (job : Job) (weights : List ℕ) (lent : Lent) (ok : Accepted job weigh
   right-lengths = rw (
     low-length,
     high-length,
-    inside 1 501 places (omega arith) (omega (arith, limits job weights lent ok .last-most)),
+    inside 1 mostTotals places (omega arith) (omega (arith, limits job weights lent ok .last-most)),
     eq-eqb places places refl,
   )
 

@@ -14,7 +14,7 @@ use Rattle.algebra.specs.Smallest.{smallest}
 use Rattle.algebra.proofs.Smallest.{smallest-finds}
 use Rattle.model.specs.declared.Job.{Job}
 use Rattle.model.specs.Answer.{Condition, accepted, firstOf}
-use Rattle.model.proofs.Answer.{passed}
+use Rattle.model.proofs.Answer.{none-holds}
 use Rattle.model.proofs.Tests.{within}
 use Rattle.model.specs.Limits.{unit, beyond}
 use Rattle.rows.specs.Layout.{Lent, workPlaces, LongEnough}
@@ -30,35 +30,30 @@ module _ (job : Job) (weights : List ℕ) (lent : Lent) where
   pub checked-limits : (rest : List Condition) → firstOf (checks job weights lent ++ rest) ≡ accepted
       → Limits job weights × LongEnough (job .last + 1) lent × (firstOf rest ≡ accepted)
   checked-limits rest e =
-      let order = passed _ _ _ _ e in
-      let divisor = passed _ _ _ _ (order .1) in
-      let term = passed _ _ _ _ (divisor .1) in
-      let start = passed _ _ _ _ (term .1) in
-      let severities = passed _ _ _ _ (start .1) in
-      let weight = passed _ _ _ _ (severities .1) in
-      let last = passed _ _ _ _ (weight .1) in
-      let room = passed _ _ _ _ (last .1) in
-      let ends = within 1 unit (job .start .high) (or-right (ltb (job .start .high) (job .start .low)) _ (start .0)) in (
+      let passed = none-holds (checks job weights lent) rest tt e in
+      let fails = passed .0 in
+      let terms = right (fails 3) in
+      let ends = within 1 unit (job .start .high) (or-right (ltb (job .start .high) (job .start .low)) _ (fails 4)) in (
         record {
           law = record {
-            order-least = within 1 4 _ (order .0) .0;
-            order-most = within 1 4 _ (order .0) .1;
-            divisor-least = within 1 1000 _ (divisor .0) .0;
-            divisor-most = within 1 1000 _ (divisor .0) .1;
-            a-small = λ i l. small i (job .law .a) (or-left _ _ (right (term .0) i l));
+            order-least = within 1 4 _ (fails 1) .0;
+            order-most = within 1 4 _ (fails 1) .1;
+            divisor-least = within 1 1000 _ (fails 2) .0;
+            divisor-most = within 1 1000 _ (fails 2) .1;
+            a-small = λ i l. small i (job .law .a) (or-left _ _ (terms i l));
             b-small = λ i l. small i (job .law .b) (or-right (beyond (termLimit (job .law .order) i) (getD (job .law .a) i (pos 0))) _
-                (right (term .0) i l));
+                (terms i l));
           };
           table = record {
-            weights-least = within 1 1000 _ (weight .0) .0;
-            weights-most = within 1 1000 _ (weight .0) .1;
+            weights-least = within 1 1000 _ (fails 6) .0;
+            weights-most = within 1 1000 _ (fails 6) .1;
           };
-          start-order = ltb-false (job .start .high) (job .start .low) (or-left _ _ (start .0));
+          start-order = ltb-false (job .start .high) (job .start .low) (or-left _ _ (fails 4));
           start-most = ends .1;
-          last-most = ltb-false 500 (job .last) (last .0);
+          last-most = ltb-false 500 (job .last) (fails 7);
         },
-        long (room .0),
-        room .1,
+        long (fails 8),
+        passed .1,
       )
     where
       -- a test for each row

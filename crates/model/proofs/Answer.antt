@@ -1,11 +1,17 @@
--- Laws of `firstOf`, by induction on the list of conditions.
+-- Laws of `firstOf`, by induction on the list of conditions. A call comes to its answer by `Due`, one condition after the other; what an
+-- acceptance says of each condition is `none-holds`.
 use mathlib.Core.Path.{_≡_, refl, sym, _∙_, ap}
-use mathlib.Core.Bool.{Bool, true, false, cond}
+use mathlib.Core.Bool.{Bool, true, false, cond, true≢false}
 use mathlib.Core.List.{List, [], _∷_, _++_}
-use Prim.Native.Nat.{ℕ, suc}
+use Prim.Native.Nat.{ℕ, zero, suc}
 use native.Mathlib.Nat as NL
+use native.Mathlib.Omega.{arith}
+use native.Mathlib.Numerals.{add-one}
+use borrow.Author.Count.{below-none, below-more}
 use borrow.Author.Tests.{ne-eqb}
 use lib.Dec.{T, ltb, eqb, ltb→lt}
+use lib.ListN.{length, getD}
+use Rattle.algebra.specs.Smallest.{FailBelow}
 use Rattle.algebra.specs.Table.{every}
 use Rattle.algebra.proofs.Table.{and-left, and-right}
 use Rattle.model.specs.Answer.{Answer, Condition, accepted, refused, isAccepted, condition, firstOf}
@@ -41,6 +47,9 @@ passed false number place rest e = (refl, e)
 abbrev pub numbered : List Condition → Bool
 numbered = every (λ c. ltb 0 (c .number))
 
+not-zero : (c : Condition) (cs : List Condition) → T (numbered (c ∷ cs)) → ¬ (c .number ≡ 0)
+not-zero c cs t e = NL.not-suc-le-zero (rw e at (ltb→lt 0 (c .number) (and-left (ltb 0 (c .number)) (numbered cs) t)))
+
 -- two lists, one after the other: the second counts where the first refuses nothing
 pub first-append : (cs ds : List Condition) → T (numbered cs)
     → firstOf (cs ++ ds) ≡ cond (isAccepted (firstOf cs)) (firstOf ds) (firstOf cs)
@@ -48,16 +57,81 @@ unfolding firstOf
 first-append [] ds t = refl
 first-append (c ∷ cs) ds t = by (c .holds) (first-append cs ds (and-right (ltb 0 (c .number)) (numbered cs) t))
   where
-    refuses : eqb (c .number) 0 ≡ false
-    refuses = ne-eqb (c .number) 0 (λ e. NL.not-suc-le-zero (rw e at (ltb→lt 0 (c .number) (and-left (ltb 0 (c .number)) (numbered cs) t))))
-
     refusal : Answer
     refusal = refused (c .number) (c .place)
 
     by : (b : Bool) → firstOf (cs ++ ds) ≡ cond (isAccepted (firstOf cs)) (firstOf ds) (firstOf cs)
         → cond b refusal (firstOf (cs ++ ds)) ≡ cond (isAccepted (cond b refusal (firstOf cs))) (firstOf ds) (cond b refusal (firstOf cs))
-    by true e = rw refuses
+    by true e = rw (ne-eqb (c .number) 0 (not-zero c cs t))
     by false e = e
+
+-- ---- one condition after the other
+abbrev none : Condition
+none = condition false 0 0
+
+-- condition n of a list, from 0; past its end, one that does not hold
+abbrev conditionAt : List Condition → ℕ → Condition
+conditionAt cs n = getD cs n none
+
+abbrev holdsAt : List Condition → ℕ → Bool
+holdsAt cs n = conditionAt cs n .holds
+
+-- the first that holds refuses
+first-refuses : (cs : List Condition) (n : ℕ) → FailBelow (holdsAt cs) n → holdsAt cs n ≡ true
+    → firstOf cs ≡ refused (conditionAt cs n .number) (conditionAt cs n .place)
+unfolding firstOf
+first-refuses [] n fails e = absurd (true≢false (sym e))
+first-refuses (c ∷ cs) zero fails e = rw e
+first-refuses (c ∷ cs) (suc n) fails e = rw (fails 0 (omega arith)) (first-refuses cs n (λ k l. fails (suc k) (omega arith)) e)
+
+-- and where none holds, the list accepts
+first-accepts : (cs : List Condition) → FailBelow (holdsAt cs) (length cs) → firstOf cs ≡ accepted
+unfolding firstOf
+first-accepts [] fails = refl
+first-accepts (c ∷ cs) fails = rw (fails 0 (omega arith)) (first-accepts cs (λ k l. fails (suc k) (omega arith)))
+
+-- condition n is due: none before it holds, and the test t tells whether it does
+pub record Due (cs : List Condition) (n : ℕ) (t : Bool) : Type 0 where
+  pub earlier : FailBelow (holdsAt cs) n
+  pub test : t ≡ holdsAt cs n
+
+pub due-first : {cs : List Condition} {t : Bool} → t ≡ holdsAt cs 0 → Due cs 0 t
+due-first e = record { earlier = below-none _; test = e }
+
+pub due-next : {cs : List Condition} {n : ℕ} {t u : Bool} → Due cs n t → t ≡ false → u ≡ holdsAt cs (suc n) → Due cs (suc n) u
+due-next {n = n} due fails e = record { earlier = rw (← add-one n) (below-more _ _ (due .earlier) (sym (due .test) ∙ fails)); test = e }
+
+pub due-refuses : {cs : List Condition} {n : ℕ} {t : Bool} → Due cs n t → t ≡ true
+    → firstOf cs ≡ refused (conditionAt cs n .number) (conditionAt cs n .place)
+due-refuses due holds = first-refuses _ _ (due .earlier) (sym (due .test) ∙ holds)
+
+-- the last condition of the list
+pub due-accepts : {cs : List Condition} {n : ℕ} {t : Bool} → length cs ≡ suc n → Due cs n t → t ≡ false → firstOf cs ≡ accepted
+due-accepts last due fails = first-accepts _ (rw last (due-next due fails refl .earlier))
+
+-- ---- after an acceptance
+-- the condition of a list that refuses by a number; where there is none, one that does not hold
+abbrev conditionOf : List Condition → ℕ → Condition
+conditionOf [] number = none
+conditionOf (c ∷ cs) number = cond (eqb (c .number) number) c (conditionOf cs number)
+
+abbrev NoneHolds : List Condition → Type 0
+NoneHolds cs = (number : ℕ) → conditionOf cs number .holds ≡ false
+
+-- of two lists, one after the other, the first has no condition that holds, and the second accepts too
+pub none-holds : (cs ds : List Condition) → T (numbered cs) → firstOf (cs ++ ds) ≡ accepted → NoneHolds cs × (firstOf ds ≡ accepted)
+unfolding firstOf
+none-holds [] ds t e = (λ number. refl, e)
+none-holds (c ∷ cs) ds t e = by (c .holds) refl e (none-holds cs ds (and-right (ltb 0 (c .number)) (numbered cs) t))
+  where
+    by : (b : Bool) → c .holds ≡ b → cond b (refused (c .number) (c .place)) (firstOf (cs ++ ds)) ≡ accepted
+        → (firstOf (cs ++ ds) ≡ accepted → NoneHolds cs × (firstOf ds ≡ accepted)) → NoneHolds (c ∷ cs) × (firstOf ds ≡ accepted)
+    by true h e rest = absurd (not-zero c cs t (ap (λ (a : Answer). a .number) e))
+    by false h e rest = (λ number. either (eqb (c .number) number) (conditionOf cs number) (rest e .0 number), rest e .1)
+      where
+        either : (b : Bool) (d : Condition) → d .holds ≡ false → cond b c d .holds ≡ false
+        either true d later = h
+        either false d later = later
 
 -- where both together refuse nothing, the first does not
 pub first-passed : (cs ds : List Condition) → T (numbered cs) → firstOf (cs ++ ds) ≡ accepted → isAccepted (firstOf cs) ≡ true

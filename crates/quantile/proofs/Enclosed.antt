@@ -2,12 +2,12 @@
 -- in this order, so their quantiles are in the opposite one.
 use mathlib.Core.Path.{_≡_, ap}
 use mathlib.Core.Bool.{true, false}
-use mathlib.Core.List.{List}
+use mathlib.Core.List.{List, []}
 use Prim.Native.Nat.{ℕ, _≤_, _<_}
 use native.Mathlib.Nat as NL
 use native.Mathlib.Decide.{decLe}
 use native.Mathlib.Omega.{arith}
-use borrow.Author.Tests.{ltb-false, eqb-false}
+use borrow.Author.Tests.{eqb-false}
 use lib.IntN.{ℤ, pos}
 use lib.Signed.{leZ}
 use lib.ListN.{length, getD}
@@ -15,11 +15,12 @@ use Rattle.algebra.specs.Fraction.{Fraction, whole, _≼_, zeroTo}
 use Rattle.algebra.proofs.Smallest.{smallest-finds, least-exists}
 use Rattle.algebra.proofs.Value.{≼-refl, ≼-trans, ≼-dec, zeroTo-mono, whole-mono, whole-le-sum, le-of-whole-sum}
 use Rattle.model.specs.Answer.{Answer, accepted}
-use Rattle.model.proofs.Answer.{passed as condition-passed}
-use Rattle.quantile.specs.Call.{runningSum, quantileOf, answered, quantiles}
-use Rattle.quantile.specs.Enclosed.{Quantile, QuantileFrom, entries, Enclose, Accepted}
+use Rattle.model.proofs.Answer.{none-holds}
+use Rattle.intervals.specs.Enclosed.{entries, Enclose}
+use Rattle.intervals.proofs.Passed.{Passed, passed}
+use Rattle.quantile.specs.Call.{runningSum, quantileOf, checks, answered, quantiles}
+use Rattle.quantile.specs.Enclosed.{Quantile, QuantileFrom, Accepted}
 use Rattle.quantile.specs.Enclosed.{OneQuantile, RowQuantiles, QuantilesInOrder, QuantileEnclosed, SureReached}
-use Rattle.quantile.proofs.Passed.{Passed, passed}
 
 -- ---- amounts
 -- no sum before total y reaches the level
@@ -72,11 +73,8 @@ module _ (low high : List ℤ) (level : ℤ) (ok : Accepted low high level) wher
   no-condition : Passed low high × ¬ (sure ≡ length low)
   unfolding quantiles
   no-condition =
-      let rows = condition-passed _ _ _ _ ok in
-      let level = condition-passed _ _ _ _ (rows .1) in
-      let entry = condition-passed _ _ _ _ (level .1) in
-      let sum = condition-passed _ _ _ _ (entry .1) in
-      (passed low high (rows .0) (ltb-false _ _ (entry .0)), eqb-false _ _ (sum .0))
+      let fails = none-holds (checks low high level) [] tt ok .0 in
+      (passed low high (fails 31) (fails 33), eqb-false _ _ (fails 34))
 
   totals : quantiles low high level ≡ record { answer = accepted; sure = sure; possible = possible }
   unfolding quantiles

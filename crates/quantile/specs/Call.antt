@@ -1,15 +1,16 @@
 -- The level query: "Takes a low row, a high row and a level L."
-use mathlib.Core.Bool.{Bool, not, _||_, cond}
+use mathlib.Core.Bool.{Bool, _||_, cond}
 use mathlib.Core.List.{List, [], _∷_}
-use Prim.Native.Nat.{ℕ, suc, _*_}
-use lib.Dec.{eqb, ltb}
+use Prim.Native.Nat.{ℕ, suc}
+use lib.Dec.{eqb}
 use lib.IntN.{ℤ, pos}
 use lib.Signed.{leZ, ltZ}
 use lib.ListN.{length, getD}
 use Rattle.algebra.specs.Smallest.{smallest}
 use Rattle.algebra.specs.Sum.{sumℤ}
 use Rattle.model.specs.Answer.{Answer, Condition, accepted, refused, isAccepted, condition, firstOf}
-use Rattle.model.specs.Limits.{outside, unit, beyond}
+use Rattle.model.specs.Limits.{unit}
+use Rattle.intervals.specs.Rows.{rowsCondition, entryCondition}
 use Rattle.quantile.specs.declared.Reason.{Reason}
 use Rattle.quantile.specs.declared.Reason.the-variants.{Rows, Level, Entry, Unreached}
 use Rattle.quantile.specs.declared.QuantileAnswer.{QuantileAnswer}
@@ -44,24 +45,9 @@ unfoldable pub quantileOf : List ℤ → ℤ → ℕ
 quantileOf row level = smallest (λ x. leZ level (runningSum row x)) (length row)
 
 -- ---- the refusals
--- 31: "rows empty, unequal in length or longer than 501", by their lengths
-abbrev pub wrongLengths : ℕ → ℕ → Bool
-wrongLengths low high = outside 1 501 low || not (eqb low high)
-
 -- 32: "L not 1 to U"
 abbrev pub wrongLevel : ℤ → Bool
 wrongLevel level = ltZ level (pos 1) || ltZ (pos unit) level
-
--- 33: "an entry outside -2U to 2U or low above high"
-abbrev pub wrongEntry : ℤ → ℤ → Bool
-wrongEntry low high = beyond (2 * unit) low || beyond (2 * unit) high || ltZ high low
-
-abbrev pub wrongAt : List ℤ → List ℤ → ℕ → Bool
-wrongAt low high x = wrongEntry (getD low x (pos 0)) (getD high x (pos 0))
-
--- "the smallest place x" with such an entry, and the rows' length where there is none
-abbrev pub firstWrong : List ℤ → List ℤ → ℕ
-firstWrong low high = smallest (wrongAt low high) (length low)
 
 -- 34: "no total has a sum of lows, from 0 to it, of L or more", so that the search comes to the row's end
 abbrev pub unreached : List ℤ → ℤ → Bool
@@ -69,9 +55,9 @@ unreached low level = eqb (quantileOf low level) (length low)
 
 abbrev pub checks : List ℤ → List ℤ → ℤ → List Condition
 checks low high level =
-    condition (wrongLengths (length low) (length high)) 31 0
+    rowsCondition low high
     ∷ condition (wrongLevel level) 32 0
-    ∷ condition (ltb (firstWrong low high) (length low)) 33 (firstWrong low high)
+    ∷ entryCondition low high
     ∷ condition (unreached low level) 34 0
     ∷ []
 

@@ -2,10 +2,11 @@
 use mathlib.Core.Path.{_≡_}
 use mathlib.Core.List.{List}
 use Prim.Native.Nat.{ℕ, _≤_, _<_}
-use lib.IntN.{ℤ, pos}
-use lib.ListN.{length, getD}
+use lib.IntN.{ℤ}
+use lib.ListN.{length}
 use Rattle.algebra.specs.Fraction.{Fraction, whole, _≼_, zeroTo}
 use Rattle.model.specs.Answer.{accepted}
+use Rattle.intervals.specs.Enclosed.{entries, Enclose}
 use Rattle.quantile.specs.Call.{quantiles}
 
 -- x is the quantile of the amounts at the level: the smallest total at which their sum, from 0 to it, reaches the level
@@ -16,14 +17,6 @@ pub record Quantile (amount : ℕ → Fraction) (level : ℤ) (x : ℕ) : Type 0
 -- the amounts have a quantile, and it lies from least to most
 abbrev pub QuantileFrom : (least most : ℕ) → (ℕ → Fraction) → ℤ → Type 0
 QuantileFrom least most amount level = (x : ℕ) × Quantile amount level x × (least ≤ x) × (x ≤ most)
-
--- a row's entries, as amounts
-abbrev pub entries : List ℤ → ℕ → Fraction
-entries row x = whole (getD row x (pos 0))
-
--- at each total of the rows the amount lies from low to high
-abbrev pub Enclose : List ℤ → List ℤ → (ℕ → Fraction) → Type 0
-Enclose low high amount = (x : ℕ) → x < length low → (entries low x ≼ amount x) × (amount x ≼ entries high x)
 
 abbrev pub Accepted : List ℤ → List ℤ → ℤ → Type 0
 Accepted low high level = quantiles low high level .answer ≡ accepted

@@ -1,4 +1,3 @@
--- The level query (`Call`), what its totals say of exact amounts (`Enclosed`), and what its search asks for (`Room`).
+-- The level query (`Call`), and what its totals say of exact amounts (`Enclosed`).
 pub mod Call
 pub mod Enclosed
-pub mod Room

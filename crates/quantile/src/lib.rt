@@ -3,6 +3,8 @@
 mod check;
 mod search;
 
+use intervals::are_wrong_rows;
+use intervals::first_wrong_entry;
 ghost use mathlib.Core.Path.{_≡_};
 ghost use Rattle.quantile.specs.Call.{numberOf, paper, quantiles};
 
@@ -41,13 +43,13 @@ pub fn reason_number(reason: Reason) -> u64
 pub fn quantile(low: &[i64], high: &[i64], level: i64) -> QuantileAnswer
     ensures { λ r. ⌜ paper r ≡ quantiles (now (low .entry)) (now (high .entry)) level ⌝ }
 {
-    if check::are_wrong_rows(low.len(), high.len()) {
+    if are_wrong_rows(low.len(), high.len()) {
         return QuantileAnswer::Refused(Reason::Rows, 0);
     }
     if check::is_wrong_level(level) {
         return QuantileAnswer::Refused(Reason::Level, 0);
     }
-    let entry = check::first_wrong_entry(low, high);
+    let entry = first_wrong_entry(low, high);
     if entry < low.len() {
         return QuantileAnswer::Refused(Reason::Entry, entry);
     }

@@ -1,8 +1,8 @@
 // The one search of the level query: sure is its answer on the lows, possible its answer on the highs.
 
 ghost use mathlib.Core.Path.{_≡_};
+ghost use Rattle.intervals.specs.Rows.{Summable};
 ghost use Rattle.quantile.specs.Call.{quantileOf};
-ghost use Rattle.quantile.specs.Room.{Summable};
 
 // The smallest total whose entries, summed from total 0, reach the level, and the row's length where none does.
 pub fn quantile_of(row: &[i64], level: i64) -> usize

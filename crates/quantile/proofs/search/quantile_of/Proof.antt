@@ -16,8 +16,8 @@ use Rattle.algebra.specs.Smallest.{FailBelow}
 use Rattle.algebra.specs.Sum.{accumulate}
 use Rattle.algebra.proofs.Size.{held}
 use Rattle.algebra.proofs.Smallest.{smallest-is, smallest-none}
+use Rattle.intervals.proofs.Sums.{sumBefore, sum-fits}
 use Rattle.quantile.specs.Call.{runningSum, quantileOf}
-use Rattle.quantile.proofs.Sums.{sumBefore, sum-fits}
 use Rattle.quantile.proofs.search.quantile_of.Statement.{statement}
 use Rattle.quantile.proofs.search.quantile_of.Tie as tie
 

@@ -6,8 +6,8 @@ use Prim.Native.Nat.{_*_}
 use mir.Facts.{toZ-ofZ}
 use Rattle.algebra.proofs.Or.{or-yes, or-no}
 use Rattle.model.specs.Limits.{unit, beyond}
-use Rattle.quantile.proofs.check.is_wrong_entry.Statement.{statement}
-use Rattle.quantile.proofs.check.is_wrong_entry.Tie as tie
+use Rattle.intervals.proofs.is_wrong_entry.Statement.{statement}
+use Rattle.intervals.proofs.is_wrong_entry.Tie as tie
 
 -- the answer of the call
 first-is : (c : tie.After-is-either-beyond) → let a = c .before .args in

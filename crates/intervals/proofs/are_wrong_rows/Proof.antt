@@ -2,8 +2,8 @@
 use borrow.Author.Needs.{needs}
 use mathlib.Core.Path.{sym, _∙_}
 use Rattle.algebra.proofs.Or.{or-yes, or-no}
-use Rattle.quantile.proofs.check.are_wrong_rows.Statement.{statement}
-use Rattle.quantile.proofs.check.are_wrong_rows.Tie as tie
+use Rattle.intervals.proofs.are_wrong_rows.Statement.{statement}
+use Rattle.intervals.proofs.are_wrong_rows.Tie as tie
 
 returns : tie.Need-returns
 returns c = let e = c .before .is-outside .ensures in e ∙ or-yes _ _ (sym e ∙ c .if1 .taken)

@@ -1,4 +1,4 @@
--- A running sum of at most 501 entries, each from -2U to 2U, fits 64 bits: its size is at most the sizes of its entries together.
+-- A running sum of a summable row fits 64 bits: its size is at most the sizes of its entries together.
 use mathlib.Core.List.{List}
 use Prim.Native.Nat.{ℕ, _*_, _≤_}
 use native.Mathlib.Nat as NL
@@ -11,7 +11,7 @@ use Rattle.algebra.specs.Sum.{sumℤ}
 use Rattle.algebra.proofs.Natural.{sumℕ-most}
 use Rattle.algebra.proofs.Size.{size-sum, size-fits}
 use Rattle.model.specs.Limits.{unit}
-use Rattle.quantile.specs.Room.{Summable}
+use Rattle.intervals.specs.Rows.{Summable}
 
 -- the sum of a row's entries before total n
 abbrev pub sumBefore : List ℤ → ℕ → ℤ

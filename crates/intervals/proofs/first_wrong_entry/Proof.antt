@@ -9,9 +9,9 @@ use mir.Syntax.{w64}
 use Rattle.algebra.specs.Smallest.{FailBelow}
 use Rattle.algebra.proofs.Smallest.{smallest-is, smallest-none}
 use Rattle.algebra.proofs.Size.{held}
-use Rattle.quantile.specs.Call.{wrongAt}
-use Rattle.quantile.proofs.check.first_wrong_entry.Statement.{statement}
-use Rattle.quantile.proofs.check.first_wrong_entry.Tie as tie
+use Rattle.intervals.specs.Rows.{wrongAt}
+use Rattle.intervals.proofs.first_wrong_entry.Statement.{statement}
+use Rattle.intervals.proofs.first_wrong_entry.Tie as tie
 
 abbrev Inv-loop : tie.InvT-loop
 Inv-loop low high x₀ x-end x = FailBelow (wrongAt low high) x × (x ≤ length low)
