@@ -1,9 +1,10 @@
 -- The laws of `smallest`, and the smallest number that has a property, by induction on the number of places, by what is found at the first.
 use mathlib.Core.Path.{_≡_, refl}
 use mathlib.Core.Bool.{Bool, true, false, cond}
-use Prim.Native.Nat.{ℕ, zero, suc, _≤_, _<_}
+use Prim.Native.Nat.{ℕ, zero, suc, _+_, _≤_, _<_, zero-le}
 use native.Mathlib.Nat as NL
 use native.Mathlib.Omega.{arith}
+use borrow.Author.Count.{below-none, below-more}
 use Rattle.algebra.specs.Smallest.{smallest, FailBelow, SmallestIs, SmallestNone, SmallestFinds, LeastExists}
 
 pub smallest-is : SmallestIs
@@ -17,6 +18,23 @@ smallest-is test (suc n) (suc i) le below here = rw (
 
 pub smallest-none : SmallestNone
 smallest-none test n fails = smallest-is test n n (NL.le-refl n) fails (λ h. absurd (NL.lt-irrefl n h))
+
+-- a loop that looks for it below n and has come to i: each number below i fails
+pub record Searched (test : ℕ → Bool) (n i : ℕ) : Type 0 where
+  pub within : i ≤ n
+  pub below : FailBelow test i
+
+pub searched-none : {test : ℕ → Bool} {n : ℕ} → Searched test n 0
+searched-none = record { within = zero-le; below = below-none _ }
+
+pub searched-next : {test : ℕ → Bool} {n i : ℕ} → Searched test n i → i < n → test i ≡ false → Searched test n (i + 1)
+searched-next s l e = record { within = omega arith; below = below-more _ _ (s .below) e }
+
+pub searched-found : {test : ℕ → Bool} {n i : ℕ} → Searched test n i → test i ≡ true → smallest test n ≡ i
+searched-found s e = smallest-is _ _ _ (s .within) (s .below) (λ _. e)
+
+pub searched-all : {test : ℕ → Bool} {n i : ℕ} → Searched test n i → n ≤ i → smallest test n ≡ n
+searched-all s l = smallest-none _ _ (λ k h. s .below k (omega arith))
 
 pub smallest-finds : SmallestFinds
 unfolding smallest

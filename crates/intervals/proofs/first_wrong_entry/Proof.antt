@@ -1,20 +1,17 @@
 -- The loop's invariant: no entry below x is wrong, so the answer is the first that is.
 use borrow.Author.Needs.{needs}
-use borrow.Author.Count.{below-none, below-more}
 use mathlib.Core.Path.{_≡_, refl, sym, _∙_}
-use Prim.Native.Nat.{_≤_, _-_}
-use native.Mathlib.Omega.{arith}
+use Prim.Native.Nat.{_-_}
 use lib.ListN.{length}
 use mir.Syntax.{w64}
-use Rattle.algebra.specs.Smallest.{FailBelow}
-use Rattle.algebra.proofs.Smallest.{smallest-is, smallest-none}
+use Rattle.algebra.proofs.Smallest.{Searched, searched-none, searched-next, searched-found, searched-all}
 use Rattle.algebra.proofs.Size.{held}
 use Rattle.intervals.specs.Rows.{wrongAt}
 use Rattle.intervals.proofs.first_wrong_entry.Statement.{statement}
 use Rattle.intervals.proofs.first_wrong_entry.Tie as tie
 
 abbrev Inv-loop : tie.InvT-loop
-Inv-loop low high x₀ x-end x = FailBelow (wrongAt low high) x × (x ≤ length low)
+Inv-loop low high x₀ x-end x = Searched (wrongAt low high) (length low) x
 
 abbrev μ-loop : tie.MeasureT-loop
 μ-loop low high x₀ x-end x = length low - x
@@ -26,21 +23,12 @@ tested c =
     rw (held w64 (c .before .before .is-wrong-entry-arg .given) refl, held w64 (c .before .is-wrong-entry-arg2 .given) refl)
     at (c .is-wrong-entry .ensures)
 
-loop-holds : tie.Need-loop-holds Inv-loop μ-loop
-loop-holds c = (below-none _, search needs)
-
 returns : tie.Need-returns Inv-loop μ-loop
-returns c = sym (smallest-is _ _ _ (search needs) (c .before .before .before .before .before .loop .inv .0)
-    (λ _. sym (tested (c .before)) ∙ c .if1 .taken))
+returns c = sym (searched-found (c .before .before .before .before .before .loop .inv) (sym (tested (c .before)) ∙ c .if1 .taken))
 
 loop-again : tie.Need-loop-again Inv-loop μ-loop
-loop-again c = (
-  below-more _ _ (c .before .before .before .before .before .loop .inv .0) (sym (tested (c .before)) ∙ c .if1 .left),
-  search needs,
-)
-
-returns-2 : tie.Need-returns-2 Inv-loop μ-loop
-returns-2 c = sym (smallest-none _ _ (λ k h. c .before .loop .inv .0 k (omega arith)))
+loop-again c =
+    searched-next (c .before .before .before .before .before .loop .inv) (search needs) (sym (tested (c .before)) ∙ c .if1 .left)
 
 pub first-wrong-entry-spec : {M : Type 1} → statement M
 first-wrong-entry-spec =
@@ -48,7 +36,7 @@ first-wrong-entry-spec =
     (tie.spec
     Inv-loop
     μ-loop
-    loop-holds
+    (λ c. searched-none)
     (λ c. search needs)
     (λ c. search needs)
     (λ c. search needs)
@@ -58,4 +46,4 @@ first-wrong-entry-spec =
     (λ c. search needs)
     (λ c. search needs)
     loop-again
-    returns-2)
+    (λ c. sym (searched-all (c .before .loop .inv) (search needs))))

@@ -1,25 +1,22 @@
 -- The loop's invariant: no term below i is wrong, so the answer is the smallest that is.
 use borrow.Author.Needs.{needs}
-use borrow.Author.Count.{below-none, below-more}
 use mathlib.Core.Path.{_≡_, sym, _∙_}
 use mathlib.Core.Bool.{_||_}
-use Prim.Native.Nat.{_≤_, _-_}
-use native.Mathlib.Omega.{arith}
+use Prim.Native.Nat.{_-_}
 use lib.IntN.{pos}
 use lib.ListN.{getD}
 use mir.Syntax.{w64}
 use mir.Val.{SFits}
 use mir.Facts.{toZ-ofZ}
-use Rattle.algebra.specs.Smallest.{FailBelow}
-use Rattle.algebra.proofs.Smallest.{smallest-is, smallest-none}
+use Rattle.algebra.proofs.Smallest.{Searched, searched-none, searched-next, searched-found, searched-all}
 use Rattle.model.specs.Limits.{beyond}
 use Rattle.compound.specs.Call.{termLimit, wrongTerm}
 use Rattle.compound.proofs.check.first_wrong_term.Statement.{statement}
 use Rattle.compound.proofs.check.first_wrong_term.Tie as tie
 
 abbrev Inv-loop : tie.InvT-loop
-Inv-loop order a b i₀ i = (i ≤ 4)
-    × FailBelow (λ k. beyond (termLimit order k) (getD a k (pos 0)) || beyond (termLimit order k) (getD b k (pos 0))) i
+Inv-loop order a b i₀ i =
+    Searched (λ k. beyond (termLimit order k) (getD a k (pos 0)) || beyond (termLimit order k) (getD b k (pos 0))) 4 i
 
 abbrev μ-loop : tie.MeasureT-loop
 μ-loop order a b i₀ i = 4 - i
@@ -34,21 +31,12 @@ tested c =
     let b : SFits w64 (getD (law .b) i (pos 0)) = record { sfits = c .before .is-wrong-term-arg2 .given } in
     rw (toZ-ofZ a, toZ-ofZ b) at (c .is-wrong-term .ensures)
 
-loop-holds : tie.Need-loop-holds Inv-loop μ-loop
-loop-holds c = (search needs, below-none _)
-
 returns : tie.Need-returns Inv-loop μ-loop
-returns c = sym (smallest-is _ _ _ (search needs) (c .before .before .before .before .before .loop .inv .1)
-    (λ _. sym (tested (c .before)) ∙ c .if1 .taken))
+returns c = sym (searched-found (c .before .before .before .before .before .loop .inv) (sym (tested (c .before)) ∙ c .if1 .taken))
 
 loop-again : tie.Need-loop-again Inv-loop μ-loop
-loop-again c = (
-  search needs,
-  below-more _ _ (c .before .before .before .before .before .loop .inv .1) (sym (tested (c .before)) ∙ c .if1 .left),
-)
-
-returns-2 : tie.Need-returns-2 Inv-loop μ-loop
-returns-2 c = sym (smallest-none _ _ (λ k h. c .before .loop .inv .1 k (omega arith)))
+loop-again c =
+    searched-next (c .before .before .before .before .before .loop .inv) (search needs) (sym (tested (c .before)) ∙ c .if1 .left)
 
 pub first-wrong-term-spec : {M : Type 1} → statement M
 first-wrong-term-spec =
@@ -56,7 +44,7 @@ first-wrong-term-spec =
     (tie.spec
     Inv-loop
     μ-loop
-    loop-holds
+    (λ c. searched-none)
     (λ c. search needs)
     (λ c. search needs)
     (λ c. search needs)
@@ -66,4 +54,4 @@ first-wrong-term-spec =
     (λ c. search needs)
     (λ c. search needs)
     loop-again
-    returns-2)
+    (λ c. sym (searched-all (c .before .loop .inv) (search needs))))

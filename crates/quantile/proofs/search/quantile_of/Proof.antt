@@ -1,10 +1,8 @@
 -- The loop's invariant: `sum` is the sum of the entries below x, and no running sum before x reaches the level.
 use borrow.Author.Needs.{needs}
-use borrow.Author.Count.{below-none, below-more}
 use mathlib.Core.Path.{_≡_, refl, sym}
 use mathlib.Core.List.{List}
 use Prim.Native.Nat.{ℕ, suc, _≤_, _-_}
-use native.Mathlib.Omega.{arith}
 use native.Mathlib.Numerals.{add-one}
 use lib.IntN.{ℤ, pos, _+ℤ_}
 use lib.Signed.{leZ}
@@ -12,10 +10,9 @@ use lib.ListN.{length, getD}
 use mir.Syntax.{w64}
 use mir.Val.{SFits, toZ, ofZ}
 use mir.Facts.{toZ-ofZ}
-use Rattle.algebra.specs.Smallest.{FailBelow}
 use Rattle.algebra.specs.Sum.{accumulate}
 use Rattle.algebra.proofs.Size.{held}
-use Rattle.algebra.proofs.Smallest.{smallest-is, smallest-none}
+use Rattle.algebra.proofs.Smallest.{Searched, searched-none, searched-next, searched-found, searched-all}
 use Rattle.intervals.proofs.Sums.{sumBefore, sum-fits}
 use Rattle.quantile.specs.Call.{runningSum, quantileOf}
 use Rattle.quantile.proofs.search.quantile_of.Statement.{statement}
@@ -23,7 +20,7 @@ use Rattle.quantile.proofs.search.quantile_of.Tie as tie
 
 abbrev Inv-loop : tie.InvT-loop
 Inv-loop row level sum₀ x₀ x-end sum x =
-    (x ≤ length row) × (sum ≡ ofZ w64 (sumBefore row x)) × FailBelow (λ y. leZ (toZ w64 level) (runningSum row y)) x
+    (sum ≡ ofZ w64 (sumBefore row x)) × Searched (λ y. leZ (toZ w64 level) (runningSum row y)) (length row) x
 
 abbrev μ-loop : tie.MeasureT-loop
 μ-loop row level sum₀ x₀ x-end sum x = length row - x
@@ -43,11 +40,11 @@ summed : (c : tie.After-sum Inv-loop μ-loop) →
 unfolding accumulate
 summed c =
     let loop = c .before .before .loop in
-    rw (loop .inv .1, toZ-ofZ (fits (c .before .before .before) (loop .x) (loop .inv .0)), held w64 (c .sum .given) refl)
+    rw (loop .inv .0, toZ-ofZ (fits (c .before .before .before) (loop .x) (loop .inv .1 .within)), held w64 (c .sum .given) refl)
 
 loop-holds : tie.Need-loop-holds Inv-loop μ-loop
 unfolding accumulate
-loop-holds c = (search needs, refl, below-none _)
+loop-holds c = (refl, searched-none)
 
 sum-holds : (c : tie.After-sum Inv-loop μ-loop) → SFits w64 (runningSum (rowOf (c .before .before .before)) (c .before .before .loop .x))
 sum-holds c = fits (c .before .before .before) (suc (c .before .before .loop .x)) (search needs)
@@ -57,23 +54,23 @@ add-sum c = rw (summed c) (sum-holds c)
 
 loop-again : tie.Need-loop-again Inv-loop μ-loop
 loop-again c = (
-  search needs,
   rw (summed (c .before), add-one),
-  below-more _ _ (c .before .before .before .loop .inv .2) (rw (summed (c .before), toZ-ofZ (sum-holds (c .before))) at (c .if1 .left)),
+  searched-next (c .before .before .before .loop .inv .1) (search needs)
+      (rw (summed (c .before), toZ-ofZ (sum-holds (c .before))) at (c .if1 .left)),
 )
 
 returns : tie.Need-returns Inv-loop μ-loop
 unfolding quantileOf
 returns c =
     rw (← toZ-ofZ (c .before .before .before .before .fits .level))
-    (sym (smallest-is _ _ _ (search needs) (c .before .before .before .loop .inv .2)
-    (λ _. rw (summed (c .before), toZ-ofZ (sum-holds (c .before))) at (c .if1 .taken))))
+    (sym (searched-found (c .before .before .before .loop .inv .1)
+    (rw (summed (c .before), toZ-ofZ (sum-holds (c .before))) at (c .if1 .taken))))
 
 returns-2 : tie.Need-returns-2 Inv-loop μ-loop
 unfolding quantileOf
 returns-2 c =
     rw (← toZ-ofZ (c .before .before .fits .level))
-    (sym (smallest-none _ _ (λ k h. c .before .loop .inv .2 k (omega arith))))
+    (sym (searched-all (c .before .loop .inv .1) (search needs)))
 
 pub quantile-of-spec : {M : Type 1} → statement M
 quantile-of-spec =
