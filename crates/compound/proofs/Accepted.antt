@@ -2,7 +2,7 @@
 -- whose entries are small.
 use mathlib.Core.Path.{_≡_, sym, _∙_, ap, subst}
 use mathlib.Core.Bool.{Bool, cond}
-use mathlib.Core.List.{List}
+use mathlib.Core.List.{List, []}
 use Prim.Native.Nat.{ℕ, _+_, _≤_, _<_}
 use native.Mathlib.Nat as NL
 use native.Mathlib.Omega.{arith}
@@ -15,7 +15,7 @@ use Rattle.algebra.proofs.Slice.{listed-length, listed-at, written-length}
 use Rattle.algebra.proofs.Smallest.{smallest-finds}
 use Rattle.model.specs.declared.Job.{Job}
 use Rattle.model.specs.Answer.{accepted, firstOf}
-use Rattle.model.proofs.Answer.{passed as condition-passed, first-passed}
+use Rattle.model.proofs.Answer.{none-holds, first-passed}
 use Rattle.enclosure.specs.declared.Entry.{Entry}
 use Rattle.enclosure.specs.Term.{entryOf, Small}
 use Rattle.rows.specs.Curve.{curveRows}
@@ -37,10 +37,9 @@ module _ (job : Job) (weights : List ℕ) (lent : Lent) (ok : curveAnswer job we
   no-fault : FailBelow (faultAt (job .law .order) (curveRows job weights)) (job .last + 1)
   unfolding firstFault
   no-fault =
-      let nine = condition-passed _ _ _ _ (passed .2) in
-      let ten = condition-passed _ _ _ _ (nine .1) in
+      let ten = none-holds (faults job weights) [] tt (passed .2) .0 10 in
       λ x l. smallest-finds (faultAt (job .law .order) (curveRows job weights)) (job .last + 1) .1 x
-      (NL.lt-of-lt-of-le l (ltb-false _ _ (ten .0)))
+      (NL.lt-of-lt-of-le l (ltb-false _ _ ten))
 
   lent-ran : curveLent job weights lent ≡ ran job weights lent
   unfolding curveAnswer curveLent

@@ -10,15 +10,14 @@ use lib.Dec.{ltb}
 use lib.IntN.{ℤ, pos, natAbs}
 use lib.ListN.{getD}
 use Rattle.algebra.proofs.Or.{or-left, or-right}
-use Rattle.algebra.specs.Smallest.{smallest}
 use Rattle.algebra.proofs.Smallest.{smallest-finds}
 use Rattle.model.specs.declared.Job.{Job}
 use Rattle.model.specs.Answer.{Condition, accepted, firstOf}
 use Rattle.model.proofs.Answer.{none-holds}
 use Rattle.model.proofs.Tests.{within}
-use Rattle.model.specs.Limits.{unit, beyond}
+use Rattle.model.specs.Limits.{unit, mostOrder, mostLast, beyond}
 use Rattle.rows.specs.Layout.{Lent, workPlaces, LongEnough}
-use Rattle.compound.specs.Call.{termLimit, wrongTerm, shorter, tooShort, checks}
+use Rattle.compound.specs.Call.{termLimit, wrongTerm, firstWrongTerm, shorter, tooShort, checks}
 use Rattle.rows.specs.Limits.{Limits}
 
 -- ---- checks 1 to 8
@@ -36,8 +35,8 @@ module _ (job : Job) (weights : List ℕ) (lent : Lent) where
       let ends = within 1 unit (job .start .high) (or-right (ltb (job .start .high) (job .start .low)) _ (fails 4)) in (
         record {
           law = record {
-            order-least = within 1 4 _ (fails 1) .0;
-            order-most = within 1 4 _ (fails 1) .1;
+            order-least = within 1 mostOrder _ (fails 1) .0;
+            order-most = within 1 mostOrder _ (fails 1) .1;
             divisor-least = within 1 1000 _ (fails 2) .0;
             divisor-most = within 1 1000 _ (fails 2) .1;
             a-small = λ i l. small i (job .law .a) (or-left _ _ (terms i l));
@@ -50,7 +49,7 @@ module _ (job : Job) (weights : List ℕ) (lent : Lent) where
           };
           start-order = ltb-false (job .start .high) (job .start .low) (or-left _ _ (fails 4));
           start-most = ends .1;
-          last-most = ltb-false 500 (job .last) (fails 7);
+          last-most = ltb-false mostLast (job .last) (fails 7);
         },
         long (fails 8),
         passed .1,
@@ -72,8 +71,9 @@ module _ (job : Job) (weights : List ℕ) (lent : Lent) where
           }
 
       -- no term is wrong
-      right : ltb (smallest (wrongTerm (job .law)) 4) 4 ≡ false → (i : ℕ) → i < 4 → wrongTerm (job .law) i ≡ false
-      right e i l = smallest-finds (wrongTerm (job .law)) 4 .1 i (omega (arith, ltb-false (smallest (wrongTerm (job .law)) 4) 4 e))
+      right : ltb (firstWrongTerm (job .law)) mostOrder ≡ false → (i : ℕ) → i < mostOrder → wrongTerm (job .law) i ≡ false
+      right e i l =
+          smallest-finds (wrongTerm (job .law)) mostOrder .1 i (omega (arith, ltb-false (firstWrongTerm (job .law)) mostOrder e))
 
       small : (i : ℕ) (terms : List ℤ) → beyond (termLimit (job .law .order) i) (getD terms i (pos 0)) ≡ false
           → natAbs (getD terms i (pos 0)) ≤ 1000

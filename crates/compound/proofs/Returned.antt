@@ -28,21 +28,21 @@ use Rattle.compound.specs.Call.{numberOf, paper, checks, faults, curveAn
 
 -- ---- answers of the code
 -- no reason has the acceptance's number
-pub numbered : (r : Reason) → eqb (numberOf r) 0 ≡ false
-numbered Order = refl
-numbered Divisor = refl
-numbered Term = refl
-numbered Start = refl
-numbered Severities = refl
-numbered Weights = refl
-numbered Last = refl
-numbered Places = refl
-numbered Range = refl
-numbered Bound = refl
+pub reason-refuses : (r : Reason) → eqb (numberOf r) 0 ≡ false
+reason-refuses Order = refl
+reason-refuses Divisor = refl
+reason-refuses Term = refl
+reason-refuses Start = refl
+reason-refuses Severities = refl
+reason-refuses Weights = refl
+reason-refuses Last = refl
+reason-refuses Places = refl
+reason-refuses Range = refl
+reason-refuses Bound = refl
 
 pub accepted-paper : (a : CurveAnswer) → isAccepted (paper a) ≡ true → paper a ≡ accepted
 accepted-paper Accepted e = refl
-accepted-paper (Refused reason place) e = absurd (true≢false (sym e ∙ numbered reason))
+accepted-paper (Refused reason place) e = absurd (true≢false (sym e ∙ reason-refuses reason))
 
 module _ (job : Job) (weights : List ℕ) (lent₀ : Lent) where
   abbrev places : ℕ

@@ -52,12 +52,12 @@ fn first_wrong_term(law: Law) -> usize
     let order = law.order;
     let a = law.a;
     let b = law.b;
-    for i in 0..4 {
+    for i in 0..MOST_ORDER as usize {
         if is_wrong_term(order, i, a[i], b[i]) {
             return i;
         }
     }
-    4
+    MOST_ORDER as usize
 }
 
 fn is_wrong_start(start: Start) -> bool
@@ -127,7 +127,7 @@ pub fn check(
         return refused(Reason::Divisor, 0);
     }
     let term = first_wrong_term(job.law);
-    if term < 4 {
+    if term < MOST_ORDER as usize {
         return refused(Reason::Term, term + 1);
     }
     if is_wrong_start(job.start) {

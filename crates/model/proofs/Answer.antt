@@ -36,13 +36,6 @@ unfolding firstOf
 by-first P true number place rest this others = this refl
 by-first P false number place rest this others = others refl
 
--- the first condition of a list that refuses nothing
-pub passed : (t : Bool) (number place : ℕ) (rest : List Condition) → firstOf (condition t (suc number) place ∷ rest) ≡ accepted
-    → (t ≡ false) × (firstOf rest ≡ accepted)
-unfolding firstOf
-passed true number place rest e = absurd (NL.suc-ne-zero number (ap (λ (a : Answer). a .number) e))
-passed false number place rest e = (refl, e)
-
 -- each condition has a number of its own, which is not the acceptance's 0
 abbrev pub numbered : List Condition → Bool
 numbered = every (λ c. ltb 0 (c .number))

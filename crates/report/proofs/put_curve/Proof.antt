@@ -11,7 +11,7 @@ use Rattle.model.specs.Answer.{accepted, refused}
 use Rattle.compound.specs.declared.CurveAnswer.{CurveAnswer}
 use Rattle.rows.specs.Layout.{Lent}
 use Rattle.compound.specs.Call.{numberOf, paper, curveAnswer, curveLent}
-use Rattle.compound.proofs.Returned.{numbered}
+use Rattle.compound.proofs.Returned.{reason-refuses}
 use Rattle.compound.proofs.Accepted.{limits}
 use Rattle.report.specs.Report.{programRows, rowsText, refusalLine, curveText}
 use Rattle.report.proofs.put_curve.Statement.{statement}
@@ -60,7 +60,7 @@ returns-2 c =
     let answer = number .before .before .before in
     let call = answer .before .before .before .before .before .before in
     let reason = answer .answer .given .0 .0 in
-    rw (refused-text (job call) (weights call) (numberOf reason) _ (numbered reason) (answered call _ (answer .answer .given .1)))
+    rw (refused-text (job call) (weights call) (numberOf reason) _ (reason-refuses reason) (answered call _ (answer .answer .given .1)))
     (rw (number .reason-number .ensures) at (line .put-refusal .ensures))
 
 pub put-curve-spec : {M : Type 1} → statement M

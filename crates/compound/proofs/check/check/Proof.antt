@@ -8,6 +8,7 @@ use mathlib.Core.List.{List}
 use Prim.Native.Nat.{ℕ}
 use native.Mathlib.Omega.{arith}
 use lib.Dec.{ltb, lit<}
+use Rattle.model.specs.Limits.{mostOrder, mostLast}
 use Rattle.model.specs.Table.{totalWeight}
 use Rattle.model.specs.Answer.{Answer, Condition, refused, isAccepted}
 use Rattle.model.proofs.Answer.{Due, due-first, due-next, due-refuses, due-accepts}
@@ -17,7 +18,7 @@ use Rattle.compound.specs.declared.check.Checked.{Checked}
 use Rattle.compound.specs.Call.{numberOf, paper, checks}
 use Rattle.compound.specs.Checks.{refusedBy}
 use Rattle.compound.proofs.Tests.{capped-outside}
-use Rattle.compound.proofs.Returned.{numbered}
+use Rattle.compound.proofs.Returned.{reason-refuses}
 use Rattle.compound.proofs.check.check.Statement.{statement}
 use Rattle.compound.proofs.check.check.Tie as tie
 
@@ -34,7 +35,7 @@ refuses : {reason : Reason} {place : ℕ} {r : Checked} {answer : Answer} {T : T
     → answer ≡ refused (numberOf reason) place → (paper (r .answer) ≡ answer) × (isAccepted (paper (r .answer)) ≡ true → T)
 refuses {reason = reason} e h = (
   ap (λ (r : Checked). paper (r .answer)) e ∙ sym h,
-  λ t. absurd (true≢false (sym t ∙ ap (λ (r : Checked). isAccepted (paper (r .answer))) e ∙ numbered reason)),
+  λ t. absurd (true≢false (sym t ∙ ap (λ (r : Checked). isAccepted (paper (r .answer))) e ∙ reason-refuses reason)),
 )
 
 -- 1, k
@@ -53,7 +54,7 @@ returns-2 c = refuses (c .refused2 .ensures) (due-refuses (divisor-due (c .befor
 
 -- 3, a term, with its place
 term-due : (c : tie.After-first-wrong-term)
-    → Due (conditions (c .before .before .before .before .before .before)) 2 (ltb (c .first-wrong-term .result) 4)
+    → Due (conditions (c .before .before .before .before .before .before)) 2 (ltb (c .first-wrong-term .result) mostOrder)
 term-due c = due-next (divisor-due (c .before .before)) (c .before .if2 .left) (rw (c .first-wrong-term .ensures))
 
 returns-3 : tie.Need-returns-3
@@ -92,7 +93,7 @@ returns-6 c = refuses (c .refused6 .ensures) (due-refuses (weights-due (c .befor
 
 -- 7, X
 last-due : (c : tie.After-struct-known) → let s = start (c .before .before .before .before .before) in
-    Due (conditions s) 6 (ltb 500 (s .args .job .last))
+    Due (conditions s) 6 (ltb mostLast (s .args .job .last))
 last-due c = due-next (weights-due (c .before .before)) (c .before .if6 .left) refl
 
 returns-7 : tie.Need-returns-7

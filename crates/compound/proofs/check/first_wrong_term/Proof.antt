@@ -9,17 +9,17 @@ use mir.Syntax.{w64}
 use mir.Val.{SFits}
 use mir.Facts.{toZ-ofZ}
 use Rattle.algebra.proofs.Smallest.{Searched, searched-none, searched-next, searched-found, searched-all}
-use Rattle.model.specs.Limits.{beyond}
+use Rattle.model.specs.Limits.{mostOrder, beyond}
 use Rattle.compound.specs.Call.{termLimit, wrongTerm}
 use Rattle.compound.proofs.check.first_wrong_term.Statement.{statement}
 use Rattle.compound.proofs.check.first_wrong_term.Tie as tie
 
 abbrev Inv-loop : tie.InvT-loop
 Inv-loop order a b i₀ i =
-    Searched (λ k. beyond (termLimit order k) (getD a k (pos 0)) || beyond (termLimit order k) (getD b k (pos 0))) 4 i
+    Searched (λ k. beyond (termLimit order k) (getD a k (pos 0)) || beyond (termLimit order k) (getD b k (pos 0))) mostOrder i
 
 abbrev μ-loop : tie.MeasureT-loop
-μ-loop order a b i₀ i = 4 - i
+μ-loop order a b i₀ i = mostOrder - i
 
 -- what the call says of the term
 tested : (c : tie.After-is-wrong-term Inv-loop μ-loop) → c .is-wrong-term .result

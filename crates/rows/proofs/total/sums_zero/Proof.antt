@@ -2,7 +2,6 @@
 use borrow.Author.Needs.{needs}
 use mathlib.Core.Path.{_≡_, sym, _∙_}
 use Prim.Native.Nat.{_≤_, _-_}
-use native.Mathlib.Omega.{arith}
 use Rattle.algebra.proofs.Sum.{accumulate-zero}
 use Rattle.enclosure.specs.Entry.{none, plus}
 use Rattle.rows.specs.Layout.{lentRows, stored}
