@@ -1,6 +1,6 @@
 // Writing to standard output.
 
-use text::output::size;
+use output::size;
 
 pub fn text(bytes: &[u8]) {
     io::write_all(1, bytes);

@@ -22,7 +22,7 @@ use Rattle.quantile.specs.Call.{Quantiles, quantileOf, quantiles}
 use Rattle.text.specs.Bytes.{ascii}
 use Rattle.text.specs.Lines.{before, after, has, afterLines, longer, words, spaced}
 use Rattle.text.specs.Numbers.{valueFrom, number, digitsWithin, decimal}
-use Rattle.text.specs.Output.{lineText}
+use Rattle.text.specs.LineText.{lineText}
 use Rattle.sheet.specs.Line.{allNumbers, line}
 use Rattle.sheet.specs.Reading.{weightLines, severityLine, lastLine, startLine, termLines, lawLine, reading}
 use Rattle.sheet.specs.Call.{Told, told, rowOnReturn, firstNoNumber, faultyWord}

@@ -13,7 +13,7 @@ use lib.ListN.{getD}
 use Rattle.text.specs.Bytes.{ascii, lineEnd}
 use Rattle.text.specs.Lines.{before, after, has, afterLines, lineAt, IsLines, spaced}
 use Rattle.text.specs.Numbers.{decimal}
-use Rattle.text.specs.Output.{lineText}
+use Rattle.text.specs.LineText.{lineText}
 use Rattle.text.proofs.Appended.{lines-append, lines-followed}
 use Rattle.text.proofs.Decimal.{decimal-plain}
 use Rattle.text.proofs.LineText.{line-text-is-line, line-text-first}

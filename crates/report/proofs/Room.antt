@@ -24,7 +24,7 @@ use Rattle.model.proofs.Tests.{within}
 use Rattle.text.specs.Bytes.{lineEnd}
 use Rattle.text.specs.Lines.{before, after, has, words, spaced}
 use Rattle.text.specs.Numbers.{decimal}
-use Rattle.text.specs.Output.{lineText}
+use Rattle.text.specs.LineText.{lineText}
 use Rattle.text.proofs.Decimal.{digits-length, decimal-length, decimal-short}
 use Rattle.sheet.specs.Sheet.{LAW, TERM, START, LAST, SEVERITY, W}
 use Rattle.sheet.specs.Line.{faulty, allNumbers, ofNumbers, ofWords, line}

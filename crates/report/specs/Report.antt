@@ -11,7 +11,7 @@ use Rattle.model.specs.declared.Job.{Job}
 use Rattle.model.specs.Answer.{Answer, accepted, refused, isAccepted}
 use Rattle.text.specs.Bytes.{ascii}
 use Rattle.text.specs.Numbers.{decimal}
-use Rattle.text.specs.Output.{lineText}
+use Rattle.text.specs.LineText.{lineText}
 use Rattle.sheet.specs.Sheet.{Sheet, sheetText}
 use Rattle.sheet.specs.Reading.{Reading, reads, refuses, reading}
 use Rattle.sheet.specs.Accepts.{Writable}

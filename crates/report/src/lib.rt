@@ -8,7 +8,7 @@ use sheet::LineAnswer;
 ghost use mathlib.Core.Path.{_≡_};
 ghost use lib.ListN.{length};
 ghost use Rattle.algebra.specs.Slice.{written};
-ghost use Rattle.text.specs.Output.{output, Puts};
+ghost use Rattle.output.specs.Output.{output, Puts};
 ghost use Rattle.report.specs.Report.{curveText, reportText};
 
 // The most weights that a sheet may have.

@@ -1,12 +1,12 @@
 // The lines of the program's text.
 
-use text::output::put_byte;
-use text::output::put_bytes;
-use text::output::put_digits;
-use text::output::put_next;
+use output::put_byte;
+use output::put_bytes;
+use output::put_digits;
+use output::put_next;
 ghost use Prim.Native.Nat.{_≤_};
 ghost use lib.ListN.{length};
-ghost use Rattle.text.specs.Output.{output, Puts};
+ghost use Rattle.output.specs.Output.{output, Puts};
 ghost use Rattle.model.specs.Answer.{refused};
 ghost use Rattle.report.specs.Report.{totalLine, tableText, refusalLine};
 

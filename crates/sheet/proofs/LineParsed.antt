@@ -14,7 +14,7 @@ use Rattle.algebra.proofs.Table.{same-list}
 use Rattle.text.specs.Bytes.{lineEnd}
 use Rattle.text.specs.Lines.{before, after, has, words}
 use Rattle.text.specs.Numbers.{decimal, number, AtMostTenDigits, signFits}
-use Rattle.text.specs.Output.{lineText}
+use Rattle.text.specs.LineText.{lineText}
 use Rattle.text.proofs.Words.{split-at-first, words-joined}
 use Rattle.text.proofs.Decimal.{number-is-decimal}
 use Rattle.sheet.specs.Sheet.{TERM}

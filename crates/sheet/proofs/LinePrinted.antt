@@ -14,7 +14,7 @@ use Rattle.algebra.proofs.Table.{same-itself}
 use Rattle.text.specs.Bytes.{lineEnd, space}
 use Rattle.text.specs.Lines.{has, spaced}
 use Rattle.text.specs.Numbers.{AtMostTenDigits, signFits, decimal}
-use Rattle.text.specs.Output.{lineText}
+use Rattle.text.specs.LineText.{lineText}
 use Rattle.text.proofs.Words.{words-of-joined}
 use Rattle.text.proofs.Decimal.{decimal-length, decimal-is-number}
 use Rattle.text.proofs.LineText.{no-space, line-text-first}

@@ -21,7 +21,7 @@ use Rattle.model.proofs.Tests.{within}
 use Rattle.text.specs.Bytes.{lineEnd}
 use Rattle.text.specs.Lines.{after, afterLines, lineAt}
 use Rattle.text.specs.Numbers.{AtMostTenDigits}
-use Rattle.text.specs.Output.{lineText}
+use Rattle.text.specs.LineText.{lineText}
 use Rattle.text.proofs.Scan.{lines-last}
 use Rattle.sheet.specs.Sheet.{LAW, TERM, START, LAST, SEVERITY, W, termsText, weightsText, sheetText}
 use Rattle.sheet.specs.Line.{Line, numbers, faulty, line}

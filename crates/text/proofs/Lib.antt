@@ -7,4 +7,3 @@ pub mod Appended
 pub mod Decimal
 pub mod LineText
 pub mod Leading
-pub mod Put

@@ -11,7 +11,7 @@ use Rattle.algebra.specs.Table.{every}
 use Rattle.text.specs.Bytes.{lineEnd, space}
 use Rattle.text.specs.Lines.{has, IsLines, words, spaced}
 use Rattle.text.specs.Numbers.{decimal}
-use Rattle.text.specs.Output.{lineText, LineTextIsLine, LineTextFirst, LineTextTells}
+use Rattle.text.specs.LineText.{lineText, LineTextIsLine, LineTextFirst, LineTextTells}
 use Rattle.text.proofs.Words.{has-append, first-after, words-of-joined}
 use Rattle.text.proofs.Decimal.{decimal-plain, decimal-injective}
 

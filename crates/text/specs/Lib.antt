@@ -3,4 +3,4 @@ pub mod Bytes
 pub mod Lines
 pub mod Numbers
 pub mod Leading
-pub mod Output
+pub mod LineText

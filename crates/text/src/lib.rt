@@ -2,7 +2,6 @@
 
 pub mod lines;
 pub mod numbers;
-pub mod output;
 
 // What a word is as a number.
 pub enum Number {

@@ -9,8 +9,8 @@ use lib.ListN.{length}
 use lib.Seq.{length-take-le}
 use Rattle.algebra.specs.Slice.{written}
 use Rattle.model.specs.Answer.{Answer, accepted, refused}
-use Rattle.text.specs.Output.{Output, output, Puts}
-use Rattle.text.proofs.Put.{put-whole}
+use Rattle.output.specs.Output.{Output, output, Puts}
+use Rattle.output.proofs.Put.{put-whole}
 use Rattle.sheet.specs.declared.LineAnswer.{LineAnswer}
 use Rattle.sheet.specs.declared.Reason.{Reason}
 use Rattle.sheet.specs.declared.Reason.the-variants.{Size, Missing, Form, Word, Limit, Excess, Room}

@@ -2,8 +2,8 @@
 use borrow.Author.Needs.{needs}
 use Rattle.text.specs.Lines.{spaced}
 use Rattle.text.specs.Numbers.{decimal}
-use Rattle.text.specs.Output.{lineText}
-use Rattle.text.proofs.Put.{_then_, nothing}
+use Rattle.text.specs.LineText.{lineText}
+use Rattle.output.proofs.Put.{_then_, nothing}
 use Rattle.report.proofs.lines.put_refusal.Statement.{statement}
 use Rattle.report.proofs.lines.put_refusal.Tie as tie
 

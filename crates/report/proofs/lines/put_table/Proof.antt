@@ -7,8 +7,8 @@ use lib.ListN.{length}
 use mir.Syntax.{w64}
 use borrow.Author.Needs.{needs}
 use Rattle.algebra.proofs.Size.{held}
-use Rattle.text.specs.Output.{output, Puts}
-use Rattle.text.proofs.Put.{_then_, nothing}
+use Rattle.output.specs.Output.{output, Puts}
+use Rattle.output.proofs.Put.{_then_, nothing}
 use Rattle.report.specs.Report.{totalLines}
 use Rattle.report.proofs.lines.put_table.Statement.{statement}
 use Rattle.report.proofs.lines.put_table.Tie as tie

@@ -3,8 +3,8 @@ use borrow.Author.Needs.{needs}
 use mir.Facts.{toZ-ofZ}
 use Rattle.text.specs.Lines.{spaced}
 use Rattle.text.specs.Numbers.{decimal}
-use Rattle.text.specs.Output.{lineText}
-use Rattle.text.proofs.Put.{_then_, nothing}
+use Rattle.text.specs.LineText.{lineText}
+use Rattle.output.proofs.Put.{_then_, nothing}
 use Rattle.report.proofs.lines.put_total.Statement.{statement}
 use Rattle.report.proofs.lines.put_total.Tie as tie
 

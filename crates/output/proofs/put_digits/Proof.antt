@@ -4,8 +4,8 @@ use Prim.Native.Nat.{ℕ, _-_}
 use lib.ListN.{length, take, drop}
 use borrow.Author.Needs.{needs}
 use Rattle.algebra.proofs.Slice.{part-to-end}
-use Rattle.text.proofs.output.put_digits.Statement.{statement}
-use Rattle.text.proofs.output.put_digits.Tie as tie
+use Rattle.output.proofs.put_digits.Statement.{statement}
+use Rattle.output.proofs.put_digits.Tie as tie
 
 returns : tie.Need-returns
 returns c =

@@ -1,9 +1,9 @@
 -- The space and the number are put one after the other.
 use borrow.Author.Needs.{needs}
 use mir.Facts.{toZ-ofZ}
-use Rattle.text.proofs.Put.{_then_}
-use Rattle.text.proofs.output.put_next.Statement.{statement}
-use Rattle.text.proofs.output.put_next.Tie as tie
+use Rattle.output.proofs.Put.{_then_}
+use Rattle.output.proofs.put_next.Statement.{statement}
+use Rattle.output.proofs.put_next.Tie as tie
 
 returns : tie.Need-returns
 returns c =

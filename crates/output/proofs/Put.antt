@@ -9,7 +9,7 @@ use lib.ListN.{length, set, length-append}
 use lib.Seq.{set-out}
 use Rattle.algebra.specs.Slice.{written}
 use Rattle.algebra.proofs.Slice.{written-length, written-next}
-use Rattle.text.specs.Output.{Output, output, putByte, put, Puts, PutWhole}
+use Rattle.output.specs.Output.{Output, output, putByte, put, Puts, PutWhole}
 
 -- ---- one text after another
 put-append : (out : Output) (s t : List ℕ) → put out (s ++ t) ≡ put (put out s) t

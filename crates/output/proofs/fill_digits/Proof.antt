@@ -7,10 +7,10 @@ use native.Mathlib.Omega.{arith}
 use lib.ListN.{length, set, drop, drop-of-length-le}
 use borrow.Author.Needs.{needs}
 use Rattle.algebra.proofs.Slice.{drop-set}
 use Rattle.text.specs.Numbers.{zeroDigit, digitsWithin, digits}
 use Rattle.text.proofs.Decimal.{digits-small, digits-last, tenth-within}
-use Rattle.text.proofs.output.fill_digits.Statement.{statement}
-use Rattle.text.proofs.output.fill_digits.Tie as tie
+use Rattle.output.proofs.fill_digits.Statement.{statement}
+use Rattle.output.proofs.fill_digits.Tie as tie
 
 abbrev Inv-loop : tie.InvT-loop
 Inv-loop bytes₀ n first₀ rest₀ bytes first rest =

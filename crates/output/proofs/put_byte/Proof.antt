@@ -1,8 +1,8 @@
 -- By whether the row has a place for the byte.
 use borrow.Author.Needs.{needs}
-use Rattle.text.proofs.Put.{put-here, put-past}
-use Rattle.text.proofs.output.put_byte.Statement.{statement}
-use Rattle.text.proofs.output.put_byte.Tie as tie
+use Rattle.output.proofs.Put.{put-here, put-past}
+use Rattle.output.proofs.put_byte.Statement.{statement}
+use Rattle.output.proofs.put_byte.Tie as tie
 
 -- the byte is written within the row
 slice-write-out : tie.Need-slice-write-out

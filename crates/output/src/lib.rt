@@ -6,9 +6,9 @@ ghost use mathlib.Core.Path.{_≡_};
 ghost use Prim.Native.Nat.{_<_};
 ghost use lib.IntN.{natAbs};
 ghost use lib.ListN.{length, drop};
 ghost use Rattle.text.specs.Bytes.{space};
 ghost use Rattle.text.specs.Numbers.{digits, decimal};
-ghost use Rattle.text.specs.Output.{output, Puts};
+ghost use Rattle.output.specs.Output.{output, Puts};
 
 pub fn put_byte(out: &mut [u8], at: usize, b: u8) -> usize
     ensures { λ r. ⌜ Puts (b ∷ []) (output (now (out .entry)) at) (output (now (out .exit)) r) ⌝ }

@@ -8,10 +8,10 @@ use borrow.Author.Tests.{ltb-true}
 use lib.IntN.{ℤ, pos, negsuc, natAbs}
 use lib.Signed.{ltZ}
 use mir.Facts.{toZ-ofZ}
 use Rattle.text.specs.Numbers.{minus, digits, decimal}
-use Rattle.text.proofs.Put.{_then_}
-use Rattle.text.proofs.output.put_decimal.Statement.{statement}
-use Rattle.text.proofs.output.put_decimal.Tie as tie
+use Rattle.output.proofs.Put.{_then_}
+use Rattle.output.proofs.put_decimal.Statement.{statement}
+use Rattle.output.proofs.put_decimal.Tie as tie
 
 below : (z : ℤ) → ltZ z (pos 0) ≡ true → decimal z ≡ minus ∷ digits (natAbs z)
 unfolding decimal

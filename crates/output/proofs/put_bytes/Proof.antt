@@ -6,10 +6,10 @@ use native.Mathlib.Numerals.{add-one}
 use lib.ListN.{length, take}
 use lib.Seq.{take-suc, take-all}
 use borrow.Author.Needs.{needs}
-use Rattle.text.specs.Output.{output, Puts}
-use Rattle.text.proofs.Put.{_then_, nothing}
-use Rattle.text.proofs.output.put_bytes.Statement.{statement}
-use Rattle.text.proofs.output.put_bytes.Tie as tie
+use Rattle.output.specs.Output.{output, Puts}
+use Rattle.output.proofs.Put.{_then_, nothing}
+use Rattle.output.proofs.put_bytes.Statement.{statement}
+use Rattle.output.proofs.put_bytes.Tie as tie
 
 abbrev Inv-loop : tie.InvT-loop
 Inv-loop out₀ at bytes next₀ i₀ i-end out next i =

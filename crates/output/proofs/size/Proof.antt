@@ -12,8 +12,8 @@ use lib.Signed.{mag, ltZ, nonNeg}
 use mir.Syntax.{w64}
 use mir.Val.{SFits, Fits}
 use mir.Facts.{toZ-ofZ}
-use Rattle.text.proofs.output.size.Statement.{statement}
-use Rattle.text.proofs.output.size.Tie as tie
+use Rattle.output.proofs.size.Statement.{statement}
+use Rattle.output.proofs.size.Tie as tie
 
 turned : (z : ℤ) → ltZ z (pos 0) ≡ true → negsuc 0 -ℤ z ≡ pos (mag z)
 turned (pos a) e = absurd (omega (arith, ltb-true a 0 e))

@@ -1,0 +1,2 @@
+-- Laws of texts put one after the other.
+pub mod Put

@@ -1,0 +1,2 @@
+-- Text put into a row of bytes.
+pub mod Output
