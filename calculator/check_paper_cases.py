@@ -31,6 +31,8 @@ class Sheet(NamedTuple):
     job: Job
     after: list
     word: bytes
+    start: int
+    count: int
 
 
 class Program(NamedTuple):
@@ -75,11 +77,11 @@ def sheet(line2, line6):
 
 def acceptance(text, job, weights, after):
     law, start, X = job
-    return Sheet(text, (0, 0), Job(*law, *start, weights, X), after, b"")
+    return Sheet(text, (0, 0), Job(*law, *start, weights, X), after, b"", 0, 0)
 
 
-def refusal(text, number, line, word):
-    return Sheet(text, (number, line), NO_JOB, ROW, word.encode())
+def refusal(text, number, line, word, start, count):
+    return Sheet(text, (number, line), NO_JOB, ROW, word.encode(), start, count)
 
 
 # the words of the table, besides the names that the file defines without parameters
@@ -163,8 +165,8 @@ def curve_differences(row):
 def sheet_differences(row):
     found = read_sheet(row.text, len(ROW))
     weights = found.job.weights
-    told = (found.number, found.line), found.job, weights + ROW[len(weights):], found.word
-    if told != (row.answer, row.job, row.after, row.word):
+    told = (found.number, found.line), found.job, weights + ROW[len(weights):], found.word, found.start, len(found.word)
+    if told != row[1:]:
         yield f"the table has {row}, the calculator {told}"
 
 

@@ -8,7 +8,7 @@ use fault::first_fault;
 use model::Job;
 use reader::read_text;
 ghost use mathlib.Core.Path.{_≡_};
-ghost use Prim.Native.Nat.{_≤_};
+ghost use Prim.Native.Nat.{_+_, _≤_};
 ghost use lib.ListN.{length};
 ghost use Rattle.algebra.specs.Slice.{written};
 ghost use Rattle.sheet.specs.Reading.{reading};
@@ -117,9 +117,10 @@ pub fn faulty_part(sheet: &[u8], places: usize) -> Part
     }
 }
 
-// The word itself.
+// The word itself: those bytes of the sheet, and no others that are the same.
 pub fn faulty_word(sheet: &[u8], places: usize) -> &[u8]
-    ensures { λ r. ⌜ now r ≡ faultyWord places (now (sheet .entry)) ⌝ }
+    ensures bytes { λ r. ⌜ now r ≡ faultyWord places (now (sheet .entry)) ⌝ }
+    ensures place { λ r. ⌜ r .ptr ≡ ((sheet .entry) .ptr .0, faultyPart places (now (sheet .entry)) .start + (sheet .entry) .ptr .1) ⌝ }
 {
     let part = faulty_part(sheet, places);
     let start = part.start;

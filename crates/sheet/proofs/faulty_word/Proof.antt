@@ -1,14 +1,14 @@
--- The part of the sheet has the word's bytes.
+-- The part of the sheet has the word's bytes, and begins where `faulty_part` says.
 use borrow.Author.Needs.{needs}
 use mathlib.Core.Path.{_≡_, subst, sym, ap, _∙_}
 use mathlib.Core.List.{List}
-use Prim.Native.Nat.{ℕ, _-_, _≤_}
+use Prim.Native.Nat.{ℕ, _+_, _-_, _≤_}
 use native.Mathlib.Omega.{arith}
 use lib.ListN.{length, take, drop, length-drop}
 use lib.Seq.{length-take-le}
 use Rattle.algebra.proofs.Slice.{part-to-end}
 use Rattle.sheet.specs.declared.Part.{Part}
-use Rattle.sheet.specs.Call.{faultyWord}
+use Rattle.sheet.specs.Call.{faultyWord, faultyPart}
 use Rattle.sheet.specs.Accepts.{PartIs}
 use Rattle.sheet.proofs.Located.{faulty-part-is-word}
 use Rattle.sheet.proofs.faulty_word.Statement.{statement}
@@ -39,8 +39,14 @@ module _ (c : tie.After-faulty-part) where
   word-is : take (part .length) rest ≡ faultyWord places sheet
   word-is = ap (take (part .length)) whole ∙ stands .bytes
 
+  abbrev front : ℕ × ℕ
+  front = c .before .before .args .sheet .ptr
+
+  place-is : _≡_ {A = ℕ × ℕ} (front .0, part .start + front .1) (front .0, faultyPart places sheet .start + front .1)
+  place-is = ap (λ (p : Part). (front .0, p .start + front .1)) (c .faulty-part .ensures)
+
 returns : tie.Need-returns
-returns c = word-is (c .before .before)
+returns c = (word-is (c .before .before), place-is (c .before .before))
 
 pub faulty-word-spec : {M : Type 1} → statement M
 faulty-word-spec =
