@@ -21,10 +21,11 @@ use Rattle.text.specs.Bytes.{ascii}
 use Rattle.text.specs.Lines.{before, after, has, afterLines, longer, words, spaced}
 use Rattle.text.specs.Numbers.{valueFrom, number, digitsWithin, decimal}
 use Rattle.text.specs.Output.{lineText}
-use Rattle.sheet.specs.Line.{allNumbers, line}
+use Rattle.lines.specs.Line.{allNumbers, line}
 use Rattle.sheet.specs.Reading.{weightLines, severityLine, lastLine, startLine, termLines, lawLine, reading}
-use Rattle.sheet.specs.declared.Part.{Part}
-use Rattle.sheet.specs.Call.{Told, told, rowOnReturn, firstNoNumber, faultyWord, partOf, firstPart, faultyPart}
+use Rattle.sheet.specs.Call.{Told, told, rowOnReturn}
+use Rattle.fault.specs.declared.Part.{Part}
+use Rattle.fault.specs.Call.{firstNoNumber, faultyWord, partOf, firstPart, faultyPart}
 use Rattle.report.specs.Report.{totalLines, curveText, reportText}
 use Rattle.cases.specs.Cases.{Case, curve, reader, level, program, Holds, cases, CasesHold, test}
 use Rattle.cases.specs.Cases.{numbers, sameAnswer, sameRow, rows, sameLent, wholeNumbers, terms, sameBytes, sameTold}

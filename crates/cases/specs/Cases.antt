@@ -18,8 +18,9 @@ use Rattle.compound.specs.Call.{Lent, lentRows, curveAnswer, curveLent}
 use Rattle.quantile.specs.Call.{Quantiles, quantiles}
 use Rattle.text.specs.Bytes.{ascii}
 use Rattle.sheet.specs.Reading.{reading}
-use Rattle.sheet.specs.declared.Part.{Part}
-use Rattle.sheet.specs.Call.{Told, told, rowOnReturn, faultyWord, partOf, faultyPart}
+use Rattle.sheet.specs.Call.{Told, told, rowOnReturn}
+use Rattle.fault.specs.declared.Part.{Part}
+use Rattle.fault.specs.Call.{faultyWord, partOf, faultyPart}
 use Rattle.report.specs.Report.{reportText}
 
 -- a call of the tool and what the paper says of it

@@ -1,13 +1,14 @@
 // The sheet reader, and the place of the faulty word.
 
+use fault::faulty_part;
+use lines::reason_number;
 use sheet::LineAnswer;
-use sheet::faulty_part;
 use sheet::read_sheet;
-use sheet::reason_number;
 ghost use mathlib.Core.Path.{_≡_};
 ghost use lib.ListN.{length};
 ghost use Rattle.sheet.specs.Reading.{reading};
-ghost use Rattle.sheet.specs.Call.{answerOf, told, rowOnReturn, partOf, faultyPart};
+ghost use Rattle.sheet.specs.Call.{answerOf, told, rowOnReturn};
+ghost use Rattle.fault.specs.Call.{partOf, faultyPart};
 ghost use Rattle.interface.specs.Handed.{returned, jobOfNumbers, tells};
 
 fn number_of(answer: LineAnswer) -> u64

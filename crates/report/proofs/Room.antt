@@ -26,9 +26,9 @@ use Rattle.text.specs.Lines.{before, after, has, words, spaced}
 use Rattle.text.specs.Numbers.{decimal}
 use Rattle.text.specs.Output.{lineText}
 use Rattle.text.proofs.Decimal.{digits-length, decimal-length, decimal-short}
-use Rattle.sheet.specs.Sheet.{LAW, TERM, START, LAST, SEVERITY, W}
-use Rattle.sheet.specs.Line.{faulty, allNumbers, ofNumbers, ofWords, line}
-use Rattle.sheet.specs.Reading.{Reading, reads, refuses, on, signed, whole, noTerms, withTerm}
+use Rattle.lines.specs.Keywords.{LAW, TERM, START, LAST, SEVERITY, W}
+use Rattle.lines.specs.Line.{faulty, allNumbers, ofNumbers, ofWords, line, signed, whole}
+use Rattle.sheet.specs.Reading.{Reading, reads, refuses, on, noTerms, withTerm}
 use Rattle.model.specs.Job.{startOf, jobOf}
 use Rattle.sheet.specs.Reading.{weightLines, severityLine, lastLine, startLine, termLines, lawLine, reading}
 use Rattle.enclosure.specs.declared.Entry.{Entry}

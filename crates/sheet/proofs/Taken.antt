@@ -3,6 +3,7 @@
 use mathlib.Core.Path.{_≡_, refl, sym, ap, subst, subst₂, _∙_}
 use mathlib.Core.Bool.{Bool, true, false, cond}
 use mathlib.Core.List.{List, [], _∷_, _++_, append-assoc, append-nil}
+use mathlib.Core.Option.{none}
 use Prim.Native.Nat.{ℕ, zero, suc, _+_, _-_, _≤_, _<_, zero-le}
 use native.Mathlib.Decide.{ℕ-discrete}
 use native.Mathlib.Numerals.{add-one}
@@ -17,20 +18,21 @@ use Rattle.model.specs.declared.Law.{Law}
 use Rattle.model.specs.declared.Start.{Start}
 use Rattle.model.specs.declared.Job.{Job}
 use Rattle.model.specs.Limits.{outside}
+use Rattle.model.specs.Job.{startOf, jobOf}
 use Rattle.model.proofs.Tests.{within}
 use Rattle.text.specs.Bytes.{lineEnd}
 use Rattle.text.specs.Lines.{after, afterLines, lineAt}
 use Rattle.text.specs.Numbers.{AtMostTenDigits}
 use Rattle.text.specs.Output.{lineText}
 use Rattle.text.proofs.Scan.{lines-last}
-use Rattle.sheet.specs.Sheet.{LAW, TERM, START, LAST, SEVERITY, W, termsText, weightsText, sheetText}
-use Rattle.sheet.specs.Line.{Line, numbers, faulty, line}
-use Rattle.sheet.specs.Reading.{Reading, reads, refuses, on, signed, whole, noTerms, withTerm, sheetOf}
-use Rattle.model.specs.Job.{startOf, jobOf}
+use Rattle.lines.specs.Keywords.{LAW, TERM, START, LAST, SEVERITY, W}
+use Rattle.lines.specs.Line.{Line, numbers, faulty, allNumbers, line, signed, whole, numberWords, signsOn}
+use Rattle.lines.proofs.LineParsed.{Parsed, LineFacts, line-facts, pair, one-whole, two-whole}
+use Rattle.sheet.specs.Sheet.{termsText, weightsText, sheetText}
+use Rattle.sheet.specs.Reading.{Reading, reads, refuses, on, noTerms, withTerm, sheetOf}
 use Rattle.sheet.specs.Reading.{weightLines, severityLine, lastLine, startLine, termLines, lawLine, reading}
-use Rattle.sheet.specs.Call.{told, numberWords, signsOn, faultOn}
-use Rattle.sheet.specs.Accepts.{Terms, Writable, FirstFaulty, TakesOnlyTexts, HandsBackFirstFaulty}
-use Rattle.sheet.proofs.LineParsed.{Parsed, LineFacts, line-facts, pair, one-whole, two-whole}
+use Rattle.sheet.specs.Call.{told}
+use Rattle.sheet.specs.Accepts.{Terms, Writable, TakesOnlyTexts, NamesFaultyLine}
 
 -- ---- what is read, and its text
 -- a law whose first i terms are read
@@ -150,8 +152,7 @@ module _ (places : ℕ) (all : List ℕ) where
   -- what is to be shown of the reading of a whole sheet
   abbrev Right : Reading → Type 0
   Right (reads sheet) = Writable sheet × (length (sheet .weights) ≤ places) × (all ≡ sheetText sheet)
-  Right (refuses number n) =
-      number ≡ 24 → FirstFaulty (signsOn (lineAt n all)) (numberWords (lineAt n all)) (faultOn (lineAt n all))
+  Right (refuses number n) = number ≡ 24 → allNumbers (signsOn (lineAt n all)) (numberWords (lineAt n all)) ≡ none
 
   -- the reader stands at line n: the bytes `done` are read, and s is what follows them
   record Stands (n : ℕ) (done s : List ℕ) : Type 0 where
@@ -176,7 +177,9 @@ module _ (places : ℕ) (all : List ℕ) where
               reached = ap (λ (k : ℕ). afterLines k all) (omega arith) ∙ lines-last (n - 1) all
                   ∙ ap (after lineEnd) (here .reached) ∙ p .next;
             })
-        by (faulty reason) f = λ e. rw (here .reached) (f e same)
+        by (faulty reason) f = λ e.
+            let says = ap (λ (w : List ℕ). sameList eqb w TERM) (f e .0) ∙ same in
+            rw (here .reached, says) (f e .1)
 
   -- a refusal by a number that is not 24
   unless : (t : Bool) (number n : ℕ) (r : Reading) → (number ≡ 24 → ⊥) → (t ≡ false → Right r) → Right (cond t (refuses number n) r)
@@ -262,5 +265,5 @@ counted places s = by (reading places s) refl
     by (reads sheet) e = let taken = takes-only-texts places s sheet e in (taken .0 .count-most, taken .1)
     by (refuses number line) e = (zero-le, zero-le)
 
-pub hands-back-first-faulty : HandsBackFirstFaulty
-hands-back-first-faulty places s n e = rw e (subst (Right places s) e (right places s) refl)
+pub names-faulty-line : NamesFaultyLine
+names-faulty-line places s n e = subst (Right places s) e (right places s) refl

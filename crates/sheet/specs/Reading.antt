@@ -5,15 +5,16 @@ use mathlib.Core.Bool.{true, false, cond}
 use mathlib.Core.List.{List, [], _∷_, _++_}
 use Prim.Native.Nat.{ℕ, zero, suc, _+_}
 use lib.Dec.{ltb}
-use lib.IntN.{ℤ, pos, natAbs}
-use lib.ListN.{length, getD, set, replicate}
+use lib.IntN.{ℤ, pos}
+use lib.ListN.{length, set, replicate}
 use Rattle.model.specs.declared.Law.{Law}
 use Rattle.model.specs.declared.Start.{Start}
 use Rattle.model.specs.declared.Job.{Job}
 use Rattle.model.specs.Job.{lawOf, startOf, jobOf}
 use Rattle.model.specs.Limits.{mostOrder, mostSeverities, outside}
-use Rattle.sheet.specs.Sheet.{Sheet, LAW, TERM, START, LAST, SEVERITY, W}
-use Rattle.sheet.specs.Line.{Line, numbers, faulty, line}
+use Rattle.lines.specs.Keywords.{LAW, TERM, START, LAST, SEVERITY, W}
+use Rattle.lines.specs.Line.{Line, numbers, faulty, line, signed, whole}
+use Rattle.sheet.specs.Sheet.{Sheet}
 
 -- what a sheet gives: its numbers, or the number of a refusal and its line
 pub data Reading : Type 0 where
@@ -24,13 +25,6 @@ pub data Reading : Type 0 where
 abbrev pub on : Line → ℕ → (List ℤ → List ℕ → Reading) → Reading
 on (numbers zs rest) n next = next zs rest
 on (faulty number) n next = refuses number n
-
--- a line's number i; where no sign is allowed its size is the number itself
-abbrev pub signed : List ℤ → ℕ → ℤ
-signed zs i = getD zs i (pos 0)
-
-abbrev pub whole : List ℤ → ℕ → ℕ
-whole zs i = natAbs (signed zs i)
 
 -- ---- what is known of a job as lines are read
 abbrev pub noTerms : ℕ → ℕ → Law

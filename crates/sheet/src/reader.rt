@@ -4,13 +4,13 @@
 
 use super::LineAnswer;
 use super::MOST_WEIGHTS;
-use super::Reason;
 use super::SheetRead;
-use super::line::LineRead;
-use super::line::read_one;
-use super::line::read_two;
-use super::line::read_weight;
-use super::line::whole;
+use lines::Reason;
+use lines::line::LineRead;
+use lines::line::read_one;
+use lines::line::read_two;
+use lines::line::read_weight;
+use lines::line::whole;
 use model::Job;
 use model::Law;
 use model::Start;
@@ -19,9 +19,9 @@ ghost use mathlib.Core.Path.{_≡_};
 ghost use mathlib.Core.List.{List, []};
 ghost use Prim.Native.Nat.{ℕ, _≤_};
 ghost use lib.ListN.{length};
-ghost use Rattle.sheet.specs.Reading.{refuses, noTerms};
-ghost use Rattle.sheet.specs.Reading.{weightLines, severityLine, lastLine, startLine, termLines, lawLine, reading};
-ghost use Rattle.sheet.specs.Call.{numberOf, paper, told};
+ghost use Rattle.lines.specs.Reason.{numberOf};
+ghost use Rattle.sheet.specs.Reading.{refuses, noTerms, weightLines, severityLine, lastLine, startLine, termLines, lawLine, reading};
+ghost use Rattle.sheet.specs.Call.{paper, told};
 
 // The most bytes that a sheet may have.
 const MOST_BYTES: u64 = 16384;

@@ -11,11 +11,12 @@ use Rattle.algebra.specs.Slice.{written}
 use Rattle.model.specs.Answer.{Answer, accepted, refused}
 use Rattle.text.specs.Output.{Output, output, Puts}
 use Rattle.text.proofs.Put.{put-whole}
+use Rattle.lines.specs.declared.Reason.{Reason}
+use Rattle.lines.specs.declared.Reason.the-variants.{Size, Missing, Form, Word, Limit, Excess, Room}
+use Rattle.lines.specs.Reason.{numberOf}
 use Rattle.sheet.specs.declared.LineAnswer.{LineAnswer}
-use Rattle.sheet.specs.declared.Reason.{Reason}
-use Rattle.sheet.specs.declared.Reason.the-variants.{Size, Missing, Form, Word, Limit, Excess, Room}
 use Rattle.sheet.specs.Reading.{Reading, reads, refuses, reading}
-use Rattle.sheet.specs.Call.{Told, numberOf, answerOf, paper, told}
+use Rattle.sheet.specs.Call.{Told, answerOf, paper, told}
 use Rattle.sheet.proofs.Taken.{counted}
 use Rattle.report.specs.Report.{mostWeights, refusalLine, curveText, readingText, reportText}
 use Rattle.report.specs.Room.{room}

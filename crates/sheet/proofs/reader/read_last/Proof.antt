@@ -5,9 +5,9 @@ use mathlib.Core.Bool.{false}
 use mathlib.Core.List.{List}
 use Prim.Native.Nat.{ℕ}
 use lib.IntN.{natAbs}
-use Rattle.sheet.specs.Sheet.{LAST}
+use Rattle.lines.specs.Keywords.{LAST}
+use Rattle.lines.proofs.GoodLine.{GoodLine, good-line, faulty-line}
 use Rattle.sheet.specs.Reading.{lastLine}
-use Rattle.sheet.proofs.Steps.{GoodLine, good-line, faulty-line}
 use Rattle.sheet.proofs.reader.read_last.Statement.{statement}
 use Rattle.sheet.proofs.reader.read_last.Tie as tie
 

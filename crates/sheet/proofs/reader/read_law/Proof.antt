@@ -7,9 +7,9 @@ use Prim.Native.Nat.{ℕ}
 use lib.IntN.{natAbs}
 use Rattle.model.specs.Limits.{outside}
 use Rattle.model.proofs.Tests.{within}
-use Rattle.sheet.specs.Sheet.{LAW}
+use Rattle.lines.specs.Keywords.{LAW}
+use Rattle.lines.proofs.GoodLine.{GoodLine, good-line, faulty-line}
 use Rattle.sheet.specs.Reading.{lawLine}
-use Rattle.sheet.proofs.Steps.{GoodLine, good-line, faulty-line}
 use Rattle.sheet.proofs.reader.read_law.Statement.{statement}
 use Rattle.sheet.proofs.reader.read_law.Tie as tie
 

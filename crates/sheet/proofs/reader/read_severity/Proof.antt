@@ -9,9 +9,9 @@ use borrow.Author.Tests.{lt-ltb, le-ltb}
 use lib.IntN.{natAbs}
 use Rattle.model.specs.Limits.{outside}
 use Rattle.model.proofs.Tests.{within}
-use Rattle.sheet.specs.Sheet.{SEVERITY}
+use Rattle.lines.specs.Keywords.{SEVERITY}
+use Rattle.lines.proofs.GoodLine.{GoodLine, good-line, faulty-line}
 use Rattle.sheet.specs.Reading.{severityLine}
-use Rattle.sheet.proofs.Steps.{GoodLine, good-line, faulty-line}
 use Rattle.sheet.proofs.reader.read_severity.Statement.{statement}
 use Rattle.sheet.proofs.reader.read_severity.Tie as tie
 

@@ -8,9 +8,10 @@ use native.Mathlib.Nat.{sub-zero}
 use native.Mathlib.Omega.{arith}
 use lib.IntN.{ℤ}
 use Rattle.model.specs.declared.Law.{Law}
-use Rattle.sheet.specs.Sheet.{TERM}
+use Rattle.lines.specs.Keywords.{TERM}
+use Rattle.lines.proofs.GoodLine.{GoodLine, good-line, faulty-line}
 use Rattle.sheet.specs.Reading.{noTerms, termLines}
-use Rattle.sheet.proofs.Steps.{GoodLine, good-line, faulty-line, term-good, term-faulty, terms-end}
+use Rattle.sheet.proofs.Steps.{term-good, term-faulty, terms-end}
 use Rattle.sheet.proofs.reader.read_terms.Statement.{statement}
 use Rattle.sheet.proofs.reader.read_terms.Tie as tie
 
