@@ -250,7 +250,7 @@ sameTold x y =
 
 -- a part of the sheet, as a list
 abbrev pub partNumbers : Part → List ℕ
-partNumbers part = part .start ∷ part .length ∷ []
+partNumbers part = part .start ∷ part .count ∷ []
 
 abbrev pub samePart : Part → Part → Bool
 samePart x y = sameBytes (partNumbers x) (partNumbers y)

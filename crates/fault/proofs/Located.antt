@@ -25,15 +25,15 @@ use Rattle.fault.specs.First.{PartIs, FaultyPartIsWord, FaultyPartBegins
 in-front : (part : Part) (s t word : List ℕ) → PartIs part s word → PartIs part (s ++ t) word
 in-front part s t word h = record {
   within = simp length-append (omega (arith, h .within));
-  bytes = ap (take (part .length)) (drop-append-le (part .start) s t (omega (arith, h .within)))
-      ∙ take-append-le (part .length) (drop (part .start) s) t (rw (length-drop (part .start) s) (omega (arith, h .within)))
+  bytes = ap (take (part .count)) (drop-append-le (part .start) s t (omega (arith, h .within)))
+      ∙ take-append-le (part .count) (drop (part .start) s) t (rw (length-drop (part .start) s) (omega (arith, h .within)))
       ∙ h .bytes;
 }
 
 in-back : (part : Part) (s t word : List ℕ) → PartIs part t word → PartIs (from (length s) part) (s ++ t) word
 in-back part s t word h = record {
   within = simp length-append (omega (arith, h .within));
-  bytes = ap (take (part .length)) (drop-append-add s t (part .start)) ∙ h .bytes;
+  bytes = ap (take (part .count)) (drop-append-add s t (part .start)) ∙ h .bytes;
 }
 
 -- an empty part
@@ -64,13 +64,13 @@ word-stands signs front (w ∷ ws) = by (isNone (number signs w)) (rw (longer, s
 
 -- a line is its keyword and the other words, with a space before each
 on-line : (line : List ℕ) → PartIs (partOn line) line (faultOn line)
-on-line line = rw (sym whole) at (word-stands (signsOn line) (keywordOf line) (numberWords line))
+on-line line = rw (sym joined) at (word-stands (signsOn line) (keywordOf line) (numberWords line))
   where
     cut : words line ≡ keywordOf line ∷ numberWords line
     cut = words-split line ∙ sym (ap (λ (ws : List (List ℕ)). getD ws 0 [] ∷ drop 1 ws) (words-split line))
 
-    whole : line ≡ keywordOf line ++ spaced (numberWords line)
-    whole = words-joined line (keywordOf line) (numberWords line) cut
+    joined : line ≡ keywordOf line ++ spaced (numberWords line)
+    joined = words-joined line (keywordOf line) (numberWords line) cut
 
 -- ---- in the sheet
 module _ (n : ℕ) (s : List ℕ) where
@@ -86,19 +86,19 @@ module _ (n : ℕ) (s : List ℕ) where
   abbrev later : List ℕ
   later = drop (length line) rest
 
-  rest-whole : line ++ later ≡ rest
-  rest-whole = ap (λ (l : List ℕ). l ++ later) (sym (before-take lineEnd rest)) ∙ take-append-drop (length line) rest
+  line-and-later : line ++ later ≡ rest
+  line-and-later = ap (λ (l : List ℕ). l ++ later) (sym (before-take lineEnd rest)) ∙ take-append-drop (length line) rest
 
   earlier-length : length earlier ≡ lineStart n s
   earlier-length = length-take-le (lineStart n s) s (omega arith)
 
-  earlier-whole : earlier ++ rest ≡ s
-  earlier-whole = ap (λ (l : List ℕ). earlier ++ l) (sym (line-starts n s)) ∙ take-append-drop (lineStart n s) s
+  earlier-and-rest : earlier ++ rest ≡ s
+  earlier-and-rest = ap (λ (l : List ℕ). earlier ++ l) (sym (line-starts n s)) ∙ take-append-drop (lineStart n s) s
 
   pub in-sheet : PartIs (partAt n s) s (faultOn line)
   in-sheet =
-      let in-rest = rw rest-whole at (in-front (partOn line) line later (faultOn line) (on-line line)) in
-      rw (earlier-length, earlier-whole) at (in-back (partOn line) earlier rest (faultOn line) in-rest)
+      let in-rest = rw line-and-later at (in-front (partOn line) line later (faultOn line) (on-line line)) in
+      rw (earlier-length, earlier-and-rest) at (in-back (partOn line) earlier rest (faultOn line) in-rest)
 
 pub faulty-part-is-word : FaultyPartIsWord
 faulty-part-is-word places s = by (reading places s)

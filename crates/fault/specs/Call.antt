@@ -36,14 +36,14 @@ faultyWord places s = wordOf (reading places s) s
 
 -- ---- where it stands: so many bytes from a place on, which is counted from 0
 abbrev pub partOf : ℕ → ℕ → Part
-partOf start count = record { start = start; length = count }
+partOf start count = record { start = start; count = count }
 
 abbrev pub noPart : Part
 noPart = partOf 0 0
 
 -- the bytes of a part of a text
 abbrev pub bytesOf : Part → List ℕ → List ℕ
-bytesOf part s = take (part .length) (drop (part .start) s)
+bytesOf part s = take (part .count) (drop (part .start) s)
 
 -- the first word that is no number, as a part of its line, and an empty part where each is one; the words begin at byte n, with a space
 -- after each but the last
@@ -56,7 +56,7 @@ partOn line = firstPart (signsOn line) (length (keywordOf line) + 1) (numberWord
 
 -- a part of what begins at byte n of a text, as a part of the text
 abbrev pub from : ℕ → Part → Part
-from n part = partOf (n + part .start) (part .length)
+from n part = partOf (n + part .start) (part .count)
 
 -- the first word on line n of a sheet that is no number there
 abbrev pub partAt : ℕ → List ℕ → Part

@@ -29,7 +29,7 @@ HandsBackFirstFaulty = (places : ℕ) (s : List ℕ) (n : ℕ) → reading place
 
 -- a part of a text is a word
 pub record PartIs (part : Part) (s word : List ℕ) : Type 0 where
-  pub within : part .start + part .length ≤ length s
+  pub within : part .start + part .count ≤ length s
   pub bytes : bytesOf part s ≡ word
 
 -- the faulty word is the part of the sheet that `faultyPart` names

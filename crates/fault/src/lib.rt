@@ -14,7 +14,7 @@ ghost use Rattle.fault.specs.Call.{faultyWord, faultyPart};
 // A part of a sheet: so many bytes from `start` on, which is counted from 0.
 pub struct Part {
     pub start: usize,
-    pub length: usize,
+    pub count: usize,
 }
 
 // Where the word that refusal 24 is about stands in the sheet; an empty part at its front after any other answer. `places` is the number of
@@ -26,18 +26,12 @@ pub fn faulty_part(sheet: &[u8], places: usize) -> Part
     let read = read_text(sheet, places, &mut weights);
     let answer = read.answer;
     match answer {
-        LineAnswer::Accepted => Part {
-            start: 0,
-            length: 0,
-        },
+        LineAnswer::Accepted => Part { start: 0, count: 0 },
         LineAnswer::Refused(reason, line) => {
             if reason_number(reason) == 24 {
                 return first_fault(sheet, line);
             }
-            Part {
-                start: 0,
-                length: 0,
-            }
+            Part { start: 0, count: 0 }
         }
     }
 }
@@ -49,7 +43,7 @@ pub fn faulty_word(sheet: &[u8], places: usize) -> &[u8]
 {
     let part = faulty_part(sheet, places);
     let start = part.start;
-    let length = part.length;
+    let count = part.count;
     let rest = &sheet[start..];
-    &rest[..length]
+    &rest[..count]
 }

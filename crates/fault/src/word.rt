@@ -42,14 +42,11 @@ fn first_no_number(line: &[u8], signs: bool) -> Part
         if is_no_number(&rest[..space], signs) {
             return Part {
                 start: line.len() - rest.len(),
-                length: space,
+                count: space,
             };
         }
     }
-    Part {
-        start: 0,
-        length: 0,
-    }
+    Part { start: 0, count: 0 }
 }
 
 // The first word on line `n` that is no number there, as a part of the sheet; an empty part at the line's front where each is one.
@@ -63,6 +60,6 @@ pub fn first_fault(sheet: &[u8], n: usize) -> Part
     let word = first_no_number(line, has_signs(line));
     Part {
         start: start + word.start,
-        length: word.length,
+        count: word.count,
     }
 }

@@ -75,11 +75,11 @@ pub extern "C" fn claimtotals_faulty_word(
     sheet: &[u8],
     places: usize,
     start: &mut usize,
-    length: &mut usize,
+    count: &mut usize,
 )
-    ensures { λ _. ⌜ partOf (now (start .exit)) (now (length .exit)) ≡ faultyPart places (now (sheet .entry)) ⌝ }
+    ensures { λ _. ⌜ partOf (now (start .exit)) (now (count .exit)) ≡ faultyPart places (now (sheet .entry)) ⌝ }
 {
     let part = faulty_part(sheet, places);
     *start = part.start;
-    *length = part.length;
+    *count = part.count;
 }

@@ -17,7 +17,7 @@ use Rattle.text.specs.Numbers.{decimal, number, AtMostTenDigits, signFits}
 use Rattle.text.specs.Output.{lineText}
 use Rattle.text.proofs.Words.{split-at-first, words-joined}
 use Rattle.text.proofs.Decimal.{number-is-decimal}
-use Rattle.lines.specs.Line.{Line, numbers, faulty, both, allNumbers, ofNumbers, ofWords, line, signed, whole, keywordOf, numberWords}
+use Rattle.lines.specs.Line.{Line, numbers, faulty, both, allNumbers, ofNumbers, ofWords, line, signed, natural, keywordOf, numberWords}
 
 -- ---- words
 -- words that are numbers are their decimal texts
@@ -111,7 +111,7 @@ module _ (signs : Bool) (keyword : List ℕ) (count : ℕ) (s : List ℕ) where
 
 -- ---- its numbers
 -- a number without a sign is its size
-is-size : (z : ℤ) → signFits false z ≡ true → z ≡ pos (natAbs z)
+pub is-size : (z : ℤ) → signFits false z ≡ true → z ≡ pos (natAbs z)
 is-size (pos n) e = refl
 is-size (negsuc n) e = absurd (false≢true e)
 
@@ -127,8 +127,8 @@ pair (x ∷ y ∷ []) e = refl
 pair (x ∷ y ∷ z ∷ zs) e = absurd (omega arith)
 
 module _ {keyword s rest : List ℕ} {zs : List ℤ} where
-  pub one-whole : Parsed false keyword 1 s zs rest → zs ≡ pos (whole zs 0) ∷ []
-  one-whole p = single zs (p .counted) ∙ λ i. is-size (signed zs 0) (p .fit 0) i ∷ []
+  pub one-natural : Parsed false keyword 1 s zs rest → zs ≡ pos (natural zs 0) ∷ []
+  one-natural p = single zs (p .counted) ∙ λ i. is-size (signed zs 0) (p .fit 0) i ∷ []
 
-  pub two-whole : Parsed false keyword 2 s zs rest → zs ≡ pos (whole zs 0) ∷ pos (whole zs 1) ∷ []
-  two-whole p = pair zs (p .counted) ∙ λ i. is-size (signed zs 0) (p .fit 0) i ∷ is-size (signed zs 1) (p .fit 1) i ∷ []
+  pub two-natural : Parsed false keyword 2 s zs rest → zs ≡ pos (natural zs 0) ∷ pos (natural zs 1) ∷ []
+  two-natural p = pair zs (p .counted) ∙ λ i. is-size (signed zs 0) (p .fit 0) i ∷ is-size (signed zs 1) (p .fit 1) i ∷ []

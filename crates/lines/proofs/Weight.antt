@@ -2,7 +2,7 @@
 use mathlib.Core.Path.{_≡_, refl, sym, ap, _∙_}
 use mathlib.Core.Bool.{true, false}
 use mathlib.Core.List.{List, [], _∷_, _++_}
-use Prim.Native.Nat.{ℕ, _+_, _-_, _^_, _≤_, _<_}
+use Prim.Native.Nat.{ℕ, _+_, _-_, _≤_}
 use native.Mathlib.Omega.{arith}
 use borrow.Author.Tests.{ltb-true}
 use lib.Dec.{eqb, eqb→eq}
@@ -19,7 +19,6 @@ use Rattle.text.specs.Lines.{before, after, has}
 use Rattle.text.specs.Leading.{numberLine, lineFound}
 use Rattle.text.proofs.Scan.{has-before, until-after}
 use Rattle.text.proofs.Read.{TellsLine, tells-line}
-use Rattle.text.proofs.Decimal.{number-is-decimal}
 use Rattle.lines.specs.Keywords.{W}
 use Rattle.lines.specs.Line.{numbers, line}
 use Rattle.lines.specs.Parts.{afterKeyword, fields}
@@ -28,7 +27,6 @@ use Rattle.lines.proofs.Parted.{line-fields, field-number}
 -- the line at the start of s gives the number w, and the next line begins at byte `next`
 pub record GoodWeight (s : List ℕ) (w next : ℕ) : Type 0 where
   pub gives : line false W 1 s ≡ numbers (pos w ∷ []) (drop next s)
-  pub small : w < 10 ^ 10
   pub within : next ≤ length s
 
 -- the line of `W`, a space and the text s
@@ -56,7 +54,6 @@ module _ (s : List ℕ) (begins : sameList eqb (take 2 s) (ascii "W ") ≡ true)
             ∙ after-keyword rest (l .ends)
             ∙ field-number false part (after lineEnd rest) (pos w) (l .is-number)
             ∙ ap (numbers (pos w ∷ [])) (sym (until-after lineEnd rest (length part) refl) ∙ from-next);
-        small = number-is-decimal false part (pos w) (l .is-number) .1;
         within = omega (arith, l .next-line, inside, length-drop 2 s);
       }
 

@@ -48,8 +48,8 @@ line signs keyword count s = cond (has lineEnd s) (ofWords signs keyword count (
 abbrev pub signed : List ℤ → ℕ → ℤ
 signed zs i = getD zs i (pos 0)
 
-abbrev pub whole : List ℤ → ℕ → ℕ
-whole zs i = natAbs (signed zs i)
+abbrev pub natural : List ℤ → ℕ → ℕ
+natural zs i = natAbs (signed zs i)
 
 -- ---- by its bytes alone
 -- a line's keyword, the words after it, and whether these may have a sign

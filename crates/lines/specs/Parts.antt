@@ -3,6 +3,7 @@ use mathlib.Core.Bool.{Bool, _&&_, cond}
 use mathlib.Core.List.{List, [], _∷_}
 use Prim.Native.Nat.{ℕ, _+_, _-_, _≤_, _<_}
 use lib.Dec.{eqb}
+use lib.IntN.{pos}
 use lib.ListN.{length, take, drop}
 use Rattle.algebra.specs.Table.{sameList}
 use Rattle.text.specs.Bytes.{lineEnd, space}
@@ -11,8 +12,10 @@ use Rattle.lines.specs.declared.line.Head.{Head}
 use Rattle.lines.specs.declared.line.Head.the-variants as H
 use Rattle.lines.specs.declared.line.Last.{Last}
 use Rattle.lines.specs.declared.line.Last.the-variants as L
-use Rattle.lines.specs.declared.line.LineRead.{LineRead}
-use Rattle.lines.specs.declared.line.LineRead.the-variants as R
+use Rattle.lines.specs.declared.line.OneRead.{OneRead}
+use Rattle.lines.specs.declared.line.OneRead.the-variants as O
+use Rattle.lines.specs.declared.line.TwoRead.{TwoRead}
+use Rattle.lines.specs.declared.line.TwoRead.the-variants as T
 use Rattle.lines.specs.Line.{Line, numbers, faulty, allNumbers, ofNumbers}
 use Rattle.lines.specs.Reason.{numberOf}
 
@@ -49,11 +52,19 @@ lastOf (L.Value z) rest = numbers (z ∷ []) rest
 lastOf (L.Refused reason) rest = faulty (numberOf reason)
 
 -- ---- the whole line
--- a line of one number has a 0 beside it
-abbrev pub lineOf : ℕ → List ℕ → LineRead → Line
-lineOf count s (R.Numbers y z next) = numbers (take count (y ∷ z ∷ [])) (drop next s)
-lineOf count s (R.Refused reason) = faulty (numberOf reason)
+abbrev pub oneOf : List ℕ → OneRead → Line
+oneOf s (O.Number n next) = numbers (pos n ∷ []) (drop next s)
+oneOf s (O.Refused reason) = faulty (numberOf reason)
 
-abbrev pub nextOf : LineRead → ℕ
-nextOf (R.Numbers y z next) = next
-nextOf (R.Refused reason) = 0
+abbrev pub twoOf : List ℕ → TwoRead → Line
+twoOf s (T.Numbers y z next) = numbers (y ∷ z ∷ []) (drop next s)
+twoOf s (T.Refused reason) = faulty (numberOf reason)
+
+-- where the next line begins
+abbrev pub afterOne : OneRead → ℕ
+afterOne (O.Number n next) = next
+afterOne (O.Refused reason) = 0
+
+abbrev pub afterTwo : TwoRead → ℕ
+afterTwo (T.Numbers y z next) = next
+afterTwo (T.Refused reason) = 0

@@ -1,7 +1,7 @@
 -- The paper's numbers of the reader's refusals.
 use Prim.Native.Nat.{ℕ}
 use Rattle.lines.specs.declared.Reason.{Reason}
-use Rattle.lines.specs.declared.Reason.the-variants.{Size, Missing, Form, Word, Limit, Excess, Room}
+use Rattle.lines.specs.declared.Reason.the-variants.{Size, Missing, Form, Word, Limit, Excess, Places}
 
 abbrev pub numberOf : Reason → ℕ
 numberOf Size = 21
@@ -10,4 +10,4 @@ numberOf Form = 23
 numberOf Word = 24
 numberOf Limit = 25
 numberOf Excess = 26
-numberOf Room = 27
+numberOf Places = 27

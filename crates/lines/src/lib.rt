@@ -20,7 +20,7 @@ pub enum Reason {
     // 26: bytes follow the final line.
     Excess,
     // 27: the row has fewer places than there are weights.
-    Room,
+    Places,
 }
 
 // The paper's number of a reason.
@@ -34,6 +34,6 @@ pub fn reason_number(reason: Reason) -> u64
         Reason::Word => 24,
         Reason::Limit => 25,
         Reason::Excess => 26,
-        Reason::Room => 27,
+        Reason::Places => 27,
     }
 }

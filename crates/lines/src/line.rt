@@ -16,10 +16,16 @@ ghost use lib.ListN.{length};
 ghost use Rattle.text.specs.Numbers.{signFits};
 ghost use Rattle.lines.specs.Keywords.{W};
 ghost use Rattle.lines.specs.Line.{line};
-ghost use Rattle.lines.specs.Parts.{afterKeyword, headOf, headWithin, fields, lastOf, lineOf, nextOf};
+ghost use Rattle.lines.specs.Parts.{afterKeyword, headOf, headWithin, fields, lastOf, oneOf, afterOne, twoOf, afterTwo};
 
-// The numbers of a line, 0 for the second of a line that has one, and where the next line begins.
-pub enum LineRead {
+// The number of a line that has one, without a sign, and where the next line begins.
+pub enum OneRead {
+    Number(u64, usize),
+    Refused(Reason),
+}
+
+// The numbers of a line that has two, and where the next line begins.
+pub enum TwoRead {
     Numbers(i64, i64, usize),
     Refused(Reason),
 }
@@ -72,63 +78,63 @@ fn last_number(part: &[u8], signs: bool) -> Last
     }
 }
 
+// A number that has no sign.
+pub fn natural(z: i64) -> u64
+    requires { ⌜ signFits false z ≡ true ⌝ }
+    ensures { λ r. ⌜ r ≡ natAbs z ⌝ }
+{
+    z as u64
+}
+
 // A line `KEYWORD n`.
-pub fn read_one(rest: &[u8], keyword: &[u8]) -> LineRead
-    ensures { λ r. ⌜ lineOf 1 (now (rest .entry)) r ≡ line false (now (keyword .entry)) 1 (now (rest .entry)) ⌝ }
-    ensures { λ r. ⌜ nextOf r ≤ length (now (rest .entry)) ⌝ }
+pub fn read_one(rest: &[u8], keyword: &[u8]) -> OneRead
+    ensures { λ r. ⌜ oneOf (now (rest .entry)) r ≡ line false (now (keyword .entry)) 1 (now (rest .entry)) ⌝ }
+    ensures { λ r. ⌜ afterOne r ≤ length (now (rest .entry)) ⌝ }
 {
     match read_keyword(rest, keyword) {
-        Head::Refused(reason) => LineRead::Refused(reason),
+        Head::Refused(reason) => OneRead::Refused(reason),
         Head::Numbers(start, end) => match last_number(&rest[start..end], false) {
-            Last::Refused(reason) => LineRead::Refused(reason),
-            Last::Value(z) => LineRead::Numbers(z, 0, end + 1),
+            Last::Refused(reason) => OneRead::Refused(reason),
+            Last::Value(z) => OneRead::Number(natural(z), end + 1),
         },
     }
 }
 
 // A line `W n`, of which a sheet may have 500. A good one has 4 bytes or more and is read in one pass. Any other is read as every line is,
 // which finds its refusal.
-pub fn read_weight(rest: &[u8]) -> LineRead
-    ensures { λ r. ⌜ lineOf 1 (now (rest .entry)) r ≡ line false W 1 (now (rest .entry)) ⌝ }
-    ensures { λ r. ⌜ nextOf r ≤ length (now (rest .entry)) ⌝ }
+pub fn read_weight(rest: &[u8]) -> OneRead
+    ensures { λ r. ⌜ oneOf (now (rest .entry)) r ≡ line false W 1 (now (rest .entry)) ⌝ }
+    ensures { λ r. ⌜ afterOne r ≤ length (now (rest .entry)) ⌝ }
 {
     if 3 < rest.len() && same(&rest[..2], b"W ") {
         if let NumberLine::Value(w, next) = number_line(&rest[2..]) {
-            return LineRead::Numbers(w as i64, 0, 2 + next);
+            return OneRead::Number(w, 2 + next);
         }
     }
     read_one(rest, b"W")
 }
 
 // A line `KEYWORD n n`; `signs` says whether its numbers may have a sign.
-pub fn read_two(rest: &[u8], keyword: &[u8], signs: bool) -> LineRead
-    ensures { λ r. ⌜ lineOf 2 (now (rest .entry)) r ≡ line signs (now (keyword .entry)) 2 (now (rest .entry)) ⌝ }
-    ensures { λ r. ⌜ nextOf r ≤ length (now (rest .entry)) ⌝ }
+pub fn read_two(rest: &[u8], keyword: &[u8], signs: bool) -> TwoRead
+    ensures { λ r. ⌜ twoOf (now (rest .entry)) r ≡ line signs (now (keyword .entry)) 2 (now (rest .entry)) ⌝ }
+    ensures { λ r. ⌜ afterTwo r ≤ length (now (rest .entry)) ⌝ }
 {
     match read_keyword(rest, keyword) {
-        Head::Refused(reason) => LineRead::Refused(reason),
+        Head::Refused(reason) => TwoRead::Refused(reason),
         Head::Numbers(start, end) => {
             let part = &rest[start..end];
             let space = until(part, b' ');
             if space == part.len() {
-                return LineRead::Refused(Reason::Form);
+                return TwoRead::Refused(Reason::Form);
             }
             // the last word first: a wrong count of words (23) goes before a first word that is no number (24)
             match last_number(&part[space + 1..], signs) {
-                Last::Refused(reason) => LineRead::Refused(reason),
+                Last::Refused(reason) => TwoRead::Refused(reason),
                 Last::Value(z) => match number(&part[..space], signs) {
-                    Number::NotANumber => LineRead::Refused(Reason::Word),
-                    Number::Value(y) => LineRead::Numbers(y, z, end + 1),
+                    Number::NotANumber => TwoRead::Refused(Reason::Word),
+                    Number::Value(y) => TwoRead::Numbers(y, z, end + 1),
                 },
             }
         }
     }
-}
-
-// A number that has no sign.
-pub fn whole(z: i64) -> u64
-    requires { ⌜ signFits false z ≡ true ⌝ }
-    ensures { λ r. ⌜ r ≡ natAbs z ⌝ }
-{
-    z as u64
 }

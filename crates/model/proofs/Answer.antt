@@ -38,18 +38,18 @@ passed true number place rest e = absurd (NL.suc-ne-zero number (ap (λ (a : Ans
 passed false number place rest e = (refl, e)
 
 -- each condition has a number of its own, which is not the acceptance's 0
-abbrev pub numbered : List Condition → Bool
-numbered = every (λ c. ltb 0 (c .number))
+abbrev pub allNumbered : List Condition → Bool
+allNumbered = every (λ c. ltb 0 (c .number))
 
 -- two lists, one after the other: the second counts where the first refuses nothing
-pub first-append : (cs ds : List Condition) → T (numbered cs)
+pub first-append : (cs ds : List Condition) → T (allNumbered cs)
     → firstOf (cs ++ ds) ≡ cond (isAccepted (firstOf cs)) (firstOf ds) (firstOf cs)
 unfolding firstOf
 first-append [] ds t = refl
-first-append (c ∷ cs) ds t = by (c .holds) (first-append cs ds (and-right (ltb 0 (c .number)) (numbered cs) t))
+first-append (c ∷ cs) ds t = by (c .holds) (first-append cs ds (and-right (ltb 0 (c .number)) (allNumbered cs) t))
   where
     refuses : eqb (c .number) 0 ≡ false
-    refuses = ne-eqb (c .number) 0 (λ e. NL.not-suc-le-zero (rw e at (ltb→lt 0 (c .number) (and-left (ltb 0 (c .number)) (numbered cs) t))))
+    refuses = ne-eqb (c .number) 0 (λ e. NL.not-suc-le-zero (rw e at (ltb→lt 0 (c .number) (and-left (ltb 0 (c .number)) (allNumbered cs) t))))
 
     refusal : Answer
     refusal = refused (c .number) (c .place)
@@ -60,7 +60,7 @@ first-append (c ∷ cs) ds t = by (c .holds) (first-append cs ds (and-right (ltb
     by false e = e
 
 -- where both together refuse nothing, the first does not
-pub first-passed : (cs ds : List Condition) → T (numbered cs) → firstOf (cs ++ ds) ≡ accepted → isAccepted (firstOf cs) ≡ true
+pub first-passed : (cs ds : List Condition) → T (allNumbered cs) → firstOf (cs ++ ds) ≡ accepted → isAccepted (firstOf cs) ≡ true
 first-passed cs ds t e = by (isAccepted (firstOf cs)) refl (sym (first-append cs ds t) ∙ e)
   where
     by : (b : Bool) → isAccepted (firstOf cs) ≡ b → cond b (firstOf ds) (firstOf cs) ≡ accepted → isAccepted (firstOf cs) ≡ true

@@ -5,7 +5,7 @@ use mathlib.Core.List.{List, [], _∷_}
 use Prim.Native.Nat.{ℕ, _+_, _-_, _≤_, _<_}
 use native.Mathlib.Nat.{add-assoc, sub-self, not-suc-le-zero}
 use native.Mathlib.Numerals.{add-one}
-use lib.IntN.{ℤ, natAbs}
+use lib.IntN.{ℤ, pos}
 use lib.ListN.{length, take, set}
 use lib.Seq.{take-suc-set}
 use Rattle.model.specs.declared.Law.{Law}
@@ -21,10 +21,10 @@ abbrev pub weightsDue : Job → List ℕ → ℕ → ℕ → ℕ → List ℕ �
 weightsDue job row count i n s = weightLines job (take i row) (count - i) (n + i) s
 
 module _ (job : Job) (row : List ℕ) (count i n : ℕ) (s : List ℕ) where
-  pub weight-good : i < count → i < length row → {w : ℕ} {z : ℤ} {rest : List ℕ} → w ≡ natAbs z → line false W 1 s ≡ numbers (z ∷ []) rest
+  pub weight-good : i < count → i < length row → {w : ℕ} {rest : List ℕ} → line false W 1 s ≡ numbers (pos w ∷ []) rest
       → weightsDue job row count i n s ≡ weightsDue job (set row i w) count (i + 1) n rest
   unfolding weightLines
-  weight-good h k {w} size e = rw (one-fewer count i h, e, add-assoc n i 1, add-one i, take-suc-set row i w k, size)
+  weight-good h k {w} e = rw (one-fewer count i h, e, add-assoc n i 1, add-one i, take-suc-set row i w k)
 
   pub weight-faulty : i < count → {number : ℕ} → line false W 1 s ≡ faulty number → weightsDue job row count i n s ≡ refuses number (n + i)
   unfolding weightLines

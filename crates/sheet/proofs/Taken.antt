@@ -26,8 +26,8 @@ use Rattle.text.specs.Numbers.{AtMostTenDigits}
 use Rattle.text.specs.Output.{lineText}
 use Rattle.text.proofs.Scan.{lines-last}
 use Rattle.lines.specs.Keywords.{LAW, TERM, START, LAST, SEVERITY, W}
-use Rattle.lines.specs.Line.{Line, numbers, faulty, allNumbers, line, signed, whole, numberWords, signsOn}
-use Rattle.lines.proofs.LineParsed.{Parsed, LineFacts, line-facts, pair, one-whole, two-whole}
+use Rattle.lines.specs.Line.{Line, numbers, faulty, allNumbers, line, signed, natural, numberWords, signsOn}
+use Rattle.lines.proofs.LineParsed.{Parsed, LineFacts, line-facts, pair, one-natural, two-natural}
 use Rattle.sheet.specs.Sheet.{termsText, weightsText, sheetText}
 use Rattle.sheet.specs.Reading.{Reading, reads, refuses, on, noTerms, withTerm, sheetOf}
 use Rattle.sheet.specs.Reading.{weightLines, severityLine, lastLine, startLine, termLines, lawLine, reading}
@@ -197,33 +197,33 @@ module _ (places : ℕ) (all : List ℕ) where
         (writable job ws fits (omega arith) (omega arith) small, omega arith, text)
     weights ws zero n (b ∷ s) e small here = λ h. absurd (omega arith)
     weights ws (suc due) n s e small here = goes-on false W 1 _ refl here λ zs rest p there.
-        let w = whole zs 0 in
+        let w = natural zs 0 in
         weights (ws ++ (w ∷ [])) due (n + 1) rest (simp length-append (omega arith)) (weight-small ws w (p .small 0) small)
-        (rw (one-whole p, table-text job m ws w) at there)
+        (rw (one-natural p, table-text job m ws w) at there)
 
   severity : (job : Job) (n : ℕ) (s : List ℕ) → JobFits job → Stands n (jobText job) s → Right (severityLine places job n s)
   unfolding severityLine weightsText
   severity job n s fits here = goes-on false SEVERITY 1 _ refl here λ zs rest p there.
-      let m = whole zs 0 in
+      let m = natural zs 0 in
       unless (outside 1 500 m) 25 n _ (λ e. omega arith) λ inside.
       unless (ltb places m) 27 n _ (λ e. omega arith) λ room.
       let limits = within 1 500 m inside in
       weights job m fits (limits .0) (limits .1) (ltb-false places m room) [] m (n + 1) rest (omega arith) (λ i. lit< tt)
-      (rw append-nil (rw (one-whole p) at there))
+      (rw append-nil (rw (one-natural p) at there))
 
   last : (law : Law) (start : Start) (n : ℕ) (s : List ℕ) → LawFits law (law .order)
       → AtMostTenDigits (pos (start .low)) → AtMostTenDigits (pos (start .high)) → Stands n (startText law start) s
       → Right (lastLine places law start n s)
   unfolding lastLine
   last law start n s fits low high here = goes-on false LAST 1 _ refl here λ zs rest p there.
-      severity (jobOf law start (whole zs 0)) (n + 1) rest (record { law = fits; low = low; high = high; last = p .small 0 })
-      (rw (one-whole p) at there)
+      severity (jobOf law start (natural zs 0)) (n + 1) rest (record { law = fits; low = low; high = high; last = p .small 0 })
+      (rw (one-natural p) at there)
 
   start : (law : Law) (n : ℕ) (s : List ℕ) → LawFits law (law .order) → Stands n (lawText law (law .order)) s
       → Right (startLine places law n s)
   unfolding startLine
   start law n s fits here = goes-on false START 2 _ refl here λ zs rest p there.
-      last law (startOf (whole zs 0) (whole zs 1)) (n + 1) rest fits (p .small 0) (p .small 1) (rw (two-whole p) at there)
+      last law (startOf (natural zs 0) (natural zs 1)) (n + 1) rest fits (p .small 0) (p .small 1) (rw (two-natural p) at there)
 
   terms : (law : Law) (i due : ℕ) (s : List ℕ) → i + due ≡ law .order → LawFits law i → Stands (i + 2) (lawText law i) s
       → Right (termLines places law i due s)
@@ -242,12 +242,12 @@ module _ (places : ℕ) (all : List ℕ) where
   law : (s : List ℕ) → Stands 1 [] s → Right (lawLine places s)
   unfolding lawLine termsText
   law s here = goes-on false LAW 2 _ refl here λ zs rest p there.
-      let k = whole zs 0 in
+      let k = natural zs 0 in
       unless (outside 1 4 k) 25 1 _ (λ e. omega arith) λ inside.
       let limits = within 1 4 k inside in
-      terms (noTerms k (whole zs 1)) 0 k rest (omega arith)
+      terms (noTerms k (natural zs 1)) 0 k rest (omega arith)
       (record { order-least = limits .0; order-most = limits .1; divisor = p .small 1; a = no-terms; b = no-terms })
-      (rw append-nil (rw (two-whole p) at there))
+      (rw append-nil (rw (two-natural p) at there))
 
   right : Right (reading places all)
   unfolding reading afterLines

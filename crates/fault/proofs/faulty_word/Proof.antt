@@ -30,14 +30,14 @@ module _ (c : tie.After-faulty-part) where
   abbrev rest : List ℕ
   rest = take (length sheet - part .start) (drop (part .start) sheet)
 
-  whole : rest ≡ drop (part .start) sheet
-  whole = part-to-end sheet (part .start)
+  to-end : rest ≡ drop (part .start) sheet
+  to-end = part-to-end sheet (part .start)
 
-  long-enough : part .length ≤ length rest
-  long-enough = rw (whole, length-drop (part .start) sheet) (omega (arith, stands .within))
+  long-enough : part .count ≤ length rest
+  long-enough = rw (to-end, length-drop (part .start) sheet) (omega (arith, stands .within))
 
-  word-is : take (part .length) rest ≡ faultyWord places sheet
-  word-is = ap (take (part .length)) whole ∙ stands .bytes
+  word-is : take (part .count) rest ≡ faultyWord places sheet
+  word-is = ap (take (part .count)) to-end ∙ stands .bytes
 
   abbrev front : ℕ × ℕ
   front = c .before .before .args .sheet .ptr
@@ -56,5 +56,5 @@ faulty-word-spec =
     (λ c. omega (arith, stands c .within))
     (λ c. omega (arith, stands c .within))
     (λ c. search needs)
-    (λ c. let at = c .before .before in sym (length-take-le (part at .length) (rest at) (long-enough at)))
+    (λ c. let at = c .before .before in sym (length-take-le (part at .count) (rest at) (long-enough at)))
     returns)

@@ -35,8 +35,8 @@ module _ (c : tie.After-read-keyword) where
   abbrev keyword : List ℕ
   keyword = c .before .before .before .args .keyword .now
 
-  abbrev whole : Line
-  whole = line signs keyword 2 rest
+  abbrev this : Line
+  this = line signs keyword 2 rest
 
 module _ (c : tie.After-start) where
   abbrev read-at : tie.After-read-keyword
@@ -73,7 +73,7 @@ module _ (c : tie.After-last-number) where
   first = number (signs (read-at head-at)) (before space (part head-at))
 
   -- what follows the first number's space
-  second : (last : Last) → c .last-number .result ≡ last → whole (read-at head-at) ≡ withFirst first (lastOf last (others head-at))
+  second : (last : Last) → c .last-number .result ≡ last → this (read-at head-at) ≡ withFirst first (lastOf last (others head-at))
   second last e =
       let until = c .before .before .before .until in
       let at = until .result in
@@ -98,7 +98,7 @@ module _ (c : tie.After-number) where
 
   -- and the first number
   both : (n : Number) → c .number .result ≡ n
-      → whole (read-at found-at) ≡ withFirst (found n) (numbers (z ∷ []) (others found-at))
+      → this (read-at found-at) ≡ withFirst (found n) (numbers (z ∷ []) (others found-at))
   both n e =
       let until = last-at .before .before .before .until in
       second last-at _ (c .before .before .before .z .given .1)

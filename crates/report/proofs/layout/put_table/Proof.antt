@@ -41,8 +41,8 @@ loop-again c =
 returns : tie.Need-returns Inv-loop μ-loop
 returns c =
     let heading = c .before .before .before .before in
-    let whole : c .before .loop .total ≡ heading .before .before .before .before .args .totals = omega arith in
-    rw whole at (heading .put-bytes .ensures then c .before .loop .inv .0)
+    let all : c .before .loop .total ≡ heading .before .before .before .before .args .totals = omega arith in
+    rw all at (heading .put-bytes .ensures then c .before .loop .inv .0)
 
 pub put-table-spec : {M : Type 1} → statement M
 put-table-spec =

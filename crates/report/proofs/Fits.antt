@@ -27,7 +27,7 @@ use Rattle.text.specs.Numbers.{decimal}
 use Rattle.text.specs.Output.{lineText}
 use Rattle.text.proofs.Decimal.{digits-length, decimal-length, decimal-short}
 use Rattle.lines.specs.Keywords.{LAW, TERM, START, LAST, SEVERITY, W}
-use Rattle.lines.specs.Line.{faulty, allNumbers, ofNumbers, ofWords, line, signed, whole}
+use Rattle.lines.specs.Line.{faulty, allNumbers, ofNumbers, ofWords, line, signed, natural}
 use Rattle.sheet.specs.Reading.{Reading, reads, refuses, on, noTerms, withTerm}
 use Rattle.model.specs.Job.{startOf, jobOf}
 use Rattle.sheet.specs.Reading.{weightLines, severityLine, lastLine, startLine, termLines, lawLine, reading}
@@ -37,7 +37,7 @@ use Rattle.compound.specs.Call.{lentRows, workPlaces, tooShort, curveAnswer, cu
 use Rattle.compound.proofs.Accepted.{limits, entry-small}
 use Rattle.report.specs.Report.{totalLine, totalLines, refusalLine, mostTotals, mostWeights, zeros, programRows}
 use Rattle.report.specs.Report.{rowsText, curveText, readingText, reportText}
-use Rattle.report.specs.Room.{WeightsFit, TotalsFit, room, TextFits, inputBytes, InputFits}
+use Rattle.report.specs.Fits.{WeightsFit, TotalsFit, room, TextFits, inputBytes, InputFits}
 
 -- ---- the weights
 -- the refusals that are for the sheet itself, and not for the row
@@ -76,24 +76,24 @@ weights-by-sheet : (job : Job) (ws : List ℕ) (due n : ℕ) (s : List ℕ) → 
 unfolding weightLines
 weights-by-sheet job ws zero n [] = tt
 weights-by-sheet job ws zero n (b ∷ s) = (omega arith, omega arith)
-weights-by-sheet job ws (suc due) n s = goes-on false W 1 s n _ λ zs rest. weights-by-sheet job (ws ++ (whole zs 0 ∷ [])) due (n + 1) rest
+weights-by-sheet job ws (suc due) n s = goes-on false W 1 s n _ λ zs rest. weights-by-sheet job (ws ++ (natural zs 0 ∷ [])) due (n + 1) rest
 
 -- 25 refuses more than 500 weights, so that a row of 500 places has room for the others
 module _ (places : ℕ) (enough : 500 ≤ places) where
   severity-by-sheet : (job : Job) (n : ℕ) (s : List ℕ) → BySheet (severityLine places job n s)
   unfolding severityLine
   severity-by-sheet job n s = goes-on false SEVERITY 1 s n _ λ zs rest.
-      unless (outside 1 500 (whole zs 0)) 25 n _ (omega arith, omega arith) λ inside.
-      rw (le-ltb places (whole zs 0) (omega (arith, within 1 500 (whole zs 0) inside .1)))
-      (weights-by-sheet job [] (whole zs 0) (n + 1) rest)
+      unless (outside 1 500 (natural zs 0)) 25 n _ (omega arith, omega arith) λ inside.
+      rw (le-ltb places (natural zs 0) (omega (arith, within 1 500 (natural zs 0) inside .1)))
+      (weights-by-sheet job [] (natural zs 0) (n + 1) rest)
 
   last-by-sheet : (law : Law) (start : Start) (n : ℕ) (s : List ℕ) → BySheet (lastLine places law start n s)
   unfolding lastLine
-  last-by-sheet law start n s = goes-on false LAST 1 s n _ λ zs rest. severity-by-sheet (jobOf law start (whole zs 0)) (n + 1) rest
+  last-by-sheet law start n s = goes-on false LAST 1 s n _ λ zs rest. severity-by-sheet (jobOf law start (natural zs 0)) (n + 1) rest
 
   start-by-sheet : (law : Law) (n : ℕ) (s : List ℕ) → BySheet (startLine places law n s)
   unfolding startLine
-  start-by-sheet law n s = goes-on false START 2 s n _ λ zs rest. last-by-sheet law (startOf (whole zs 0) (whole zs 1)) (n + 1) rest
+  start-by-sheet law n s = goes-on false START 2 s n _ λ zs rest. last-by-sheet law (startOf (natural zs 0) (natural zs 1)) (n + 1) rest
 
   terms-by-sheet : (law : Law) (i due : ℕ) (s : List ℕ) → BySheet (termLines places law i due s)
   unfolding termLines
@@ -104,8 +104,8 @@ module _ (places : ℕ) (enough : 500 ≤ places) where
   law-by-sheet : (s : List ℕ) → BySheet (lawLine places s)
   unfolding lawLine
   law-by-sheet s = goes-on false LAW 2 s 1 _ λ zs rest.
-      unless (outside 1 4 (whole zs 0)) 25 1 _ (omega arith, omega arith) λ _.
-      terms-by-sheet (noTerms (whole zs 0) (whole zs 1)) 0 (whole zs 0) rest
+      unless (outside 1 4 (natural zs 0)) 25 1 _ (omega arith, omega arith) λ _.
+      terms-by-sheet (noTerms (natural zs 0) (natural zs 1)) 0 (natural zs 0) rest
 
   pub reading-by-sheet : (s : List ℕ) → BySheet (reading places s)
   unfolding reading

@@ -10,8 +10,8 @@ use mir.Syntax.{w64}
 use mir.Val.{Fits, SFits}
 use mir.Facts.{toZ-ofZ}
 use Rattle.text.specs.Numbers.{signFits}
-use Rattle.lines.proofs.line.whole.Statement.{statement}
-use Rattle.lines.proofs.line.whole.Tie as tie
+use Rattle.lines.proofs.line.natural.Statement.{statement}
+use Rattle.lines.proofs.line.natural.Tie as tie
 
 no-sign : (z : ℤ) → SFits w64 z → signFits false z ≡ true → T (nonNeg z) × Fits w64 (natAbs z)
 no-sign (pos n) f e = (tt, record { fits = omega arith })
@@ -20,5 +20,5 @@ no-sign (negsuc n) f e = absurd (false≢true e)
 cast-result : tie.Need-cast-result
 cast-result c = let f = c .fits .z in simp toZ-ofZ (no-sign (c .args .z) f (c .pre))
 
-pub whole-spec : {M : Type 1} → statement M
-whole-spec = tie.close (tie.spec cast-result (λ c. search needs))
+pub natural-spec : {M : Type 1} → statement M
+natural-spec = tie.close (tie.spec cast-result (λ c. search needs))
