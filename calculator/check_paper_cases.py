@@ -50,6 +50,7 @@ def on_reader(sheet, row):
         "what is told": {"answer": answer(read.number, read.line), "job": job_record(read.job), "count": len(weights), "weights": weights},
         "lent row": weights + row[len(weights):],
         "faulty word": list(read.word),
+        "its place": {"start": read.start, "count": len(read.word)},
     }
 
 
@@ -94,6 +95,7 @@ WORDS = {
     "lawOf": lambda order: lambda divisor: lambda a: lambda b: {"order": order, "divisor": divisor, "a": a, "b": b},
     "startOf": lambda low: lambda high: {"low": low, "high": high},
     "jobOf": lambda law: lambda start: lambda last: {"law": law, "start": start, "last": last},
+    "partOf": lambda start: lambda count: {"start": start, "count": count},
     "accepted": answer(0, 0),
     "refused": lambda number: lambda place: answer(number, place),
     "lentRows": lambda low: lambda high: lambda bound: lambda work: {"low": low, "high": high, "bound": bound, "work": work},

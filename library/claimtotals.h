@@ -93,10 +93,10 @@ uint64_t claimtotals_read_sheet(const uint8_t *sheet, size_t sheet_length, uint6
    sheet         the sheet's bytes; only read
    places        how many places the row had that the sheet was read for
    start         where the word begins, counted in bytes from 0
-   length        how many bytes it has; with 24 it may be 0, as a word may be empty
+   count         how many bytes it has; with 24 it may be 0, as a word may be empty
 
    After any other answer of claimtotals_read_sheet both are 0. It refuses nothing. */
-void claimtotals_faulty_word(const uint8_t *sheet, size_t sheet_length, size_t places, size_t *start, size_t *length);
+void claimtotals_faulty_word(const uint8_t *sheet, size_t sheet_length, size_t places, size_t *start, size_t *count);
 
 /* The level query: the total up to which the chances of a curve reach a level.
 

@@ -21,7 +21,7 @@ const MARK: u64 = u64::MAX;
 fn show_answer(answer: LineAnswer) {
     match answer {
         LineAnswer::Accepted => show::answer(0, 0),
-        LineAnswer::Refused(reason, line) => { show::answer(sheet::reason_number(reason), line) }
+        LineAnswer::Refused(reason, line) => { show::answer(lines::reason_number(reason), line) }
     }
 }
 
@@ -95,7 +95,7 @@ fn call(sheet: &[u8], row: &mut [u64], places: usize)
 {
     show_read(sheet::read_sheet(sheet, &mut row[..places]));
     show_row(row);
-    show_word(sheet::faulty_word(sheet, places));
+    show_word(fault::faulty_word(sheet, places));
 }
 
 pub fn run() {

@@ -23,13 +23,15 @@ use Rattle.text.specs.Bytes.{ascii}
 use Rattle.text.specs.Lines.{before, after, has, afterLines, longer, words, spaced}
 use Rattle.text.specs.Numbers.{valueFrom, number, digitsWithin, decimal}
 use Rattle.text.specs.LineText.{lineText}
-use Rattle.sheet.specs.Line.{allNumbers, line}
+use Rattle.lines.specs.Line.{allNumbers, line}
 use Rattle.sheet.specs.Reading.{weightLines, severityLine, lastLine, startLine, termLines, lawLine, reading}
-use Rattle.sheet.specs.Call.{Told, told, rowOnReturn, firstNoNumber, faultyWord}
+use Rattle.sheet.specs.Call.{Told, told, rowOnReturn}
+use Rattle.fault.specs.declared.Part.{Part}
+use Rattle.fault.specs.Call.{firstNoNumber, faultyWord, partOf, firstPart, faultyPart}
 use Rattle.report.specs.Report.{totalLines, curveText, reportText}
 use Rattle.cases.specs.Cases.{Case, curve, reader, level, program, Holds, cases, CasesHold, test}
 use Rattle.cases.specs.Cases.{numbers, sameAnswer, sameRow, rows, sameLent, wholeNumbers, terms, sameBytes, sameTold}
-use Rattle.cases.specs.Cases.{queryNumbers, sameQuantiles}
+use Rattle.cases.specs.Cases.{partNumbers, samePart, queryNumbers, sameQuantiles}
 
 same-answer : Equates Answer sameAnswer
 same-answer x y t = ap (λ l. refused (getD l 0 0) (getD l 1 0)) (same-list ℕ eqb eqb→eq (numbers x) (numbers y) t)
@@ -75,6 +77,9 @@ same-told x y t =
     weights : Bool
     weights = sameBytes (x .weights) (y .weights)
 
+same-part : Equates Part samePart
+same-part x y t = ap (λ l. partOf (getD l 0 0) (getD l 1 0)) (same-bytes (partNumbers x) (partNumbers y) t)
+
 same-quantiles : Equates Quantiles sameQuantiles
 same-quantiles x y t =
     ap (λ l. record { answer = refused (getD l 0 0) (getD l 1 0); sure = getD l 2 0; possible = getD l 3 0 })
@@ -92,11 +97,13 @@ sound (curve job weights lent answer after) t = (
 
     returned : Bool
     returned = sameLent (curveLent job weights lent) after
-sound (reader s row says after word) t =
-    let others = and-right tells (returned && handed) t in (
-      same-told (told (reading (length row) s)) says (and-left tells (returned && handed) t),
-      same-bytes (rowOnReturn (reading (length row) s) row) after (and-left returned handed others),
-      same-bytes (faultyWord (length row) s) word (and-right returned handed others),
+sound (reader s row says after word part) t =
+    let others = and-right tells (returned && (handed && placed)) t in
+    let handing = and-right returned (handed && placed) others in (
+      same-told (told (reading (length row) s)) says (and-left tells (returned && (handed && placed)) t),
+      same-bytes (rowOnReturn (reading (length row) s) row) after (and-left returned (handed && placed) others),
+      same-bytes (faultyWord (length row) s) word (and-left handed placed handing),
+      same-part (faultyPart (length row) s) part (and-right handed placed handing),
     )
   where
     tells : Bool
@@ -107,6 +114,9 @@ sound (reader s row says after word) t =
 
     handed : Bool
     handed = sameBytes (faultyWord (length row) s) word
+
+    placed : Bool
+    placed = samePart (faultyPart (length row) s) part
 sound (level low high L answer) t = same-quantiles (quantiles low high L) answer t
 sound (program s text) t = same-bytes (reportText s) (ascii text) t
 
@@ -114,7 +124,7 @@ pub cases-hold : CasesHold
 unfolding curveAnswer curveLent rowAfter rangeFault firstFault curveRows history withNext entryAt sumsNext sumsZero divisorZero factor
     rounded scaled
     firstOf ceilDiv floorDiv accumulate smallest listed
-    reading lawLine termLines startLine lastLine severityLine weightLines line allNumbers firstNoNumber
+    reading lawLine termLines startLine lastLine severityLine weightLines line allNumbers firstNoNumber firstPart
     number valueFrom words longer afterLines before after has
     quantiles quantileOf
     reportText curveText totalLines lineText spaced decimal digitsWithin

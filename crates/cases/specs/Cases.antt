@@ -19,15 +19,17 @@ use Rattle.compound.specs.Call.{curveAnswer, curveLent}
 use Rattle.quantile.specs.Call.{Quantiles, quantiles}
 use Rattle.text.specs.Bytes.{ascii}
 use Rattle.sheet.specs.Reading.{reading}
-use Rattle.sheet.specs.Call.{Told, told, rowOnReturn, faultyWord}
+use Rattle.sheet.specs.Call.{Told, told, rowOnReturn}
+use Rattle.fault.specs.declared.Part.{Part}
+use Rattle.fault.specs.Call.{faultyWord, partOf, faultyPart}
 use Rattle.report.specs.Report.{reportText}
 
 -- a call of the tool and what the paper says of it
 pub data Case : Type 0 where
   -- the job and its weights, the lent rows at entry, the answer, the lent rows on return
   curve : Job → List ℕ → Lent → Answer → Lent → Case
-  -- the sheet's bytes and the lent row at entry, what the reader tells, the row on return, the faulty word
-  reader : List ℕ → List ℕ → Told → List ℕ → List ℕ → Case
+  -- the sheet's bytes and the lent row at entry, what the reader tells, the row on return, the faulty word and where it stands
+  reader : List ℕ → List ℕ → Told → List ℕ → List ℕ → Part → Case
   -- the low row, the high row and the level, the answer with its two totals
   level : List ℤ → List ℤ → ℤ → Quantiles → Case
   -- the sheet's bytes, and the text that the program writes
@@ -36,8 +38,9 @@ pub data Case : Type 0 where
 -- what a row claims
 abbrev pub Holds : Case → Type 0
 Holds (curve job weights lent answer after) = (curveAnswer job weights lent ≡ answer) × (curveLent job weights lent ≡ after)
-Holds (reader s row says after word) =
-    (told (reading (length row) s) ≡ says) × (rowOnReturn (reading (length row) s) row ≡ after) × (faultyWord (length row) s ≡ word)
+Holds (reader s row says after word part) =
+    (told (reading (length row) s) ≡ says) × (rowOnReturn (reading (length row) s) row ≡ after)
+    × (faultyWord (length row) s ≡ word) × (faultyPart (length row) s ≡ part)
 Holds (level low high L answer) = quantiles low high L ≡ answer
 Holds (program s text) = reportText s ≡ ascii text
 
@@ -84,13 +87,13 @@ places = 7 ∷ 7 ∷ 7 ∷ []
 -- "An acceptance writes the first m places and no others.", and hands back an empty part
 abbrev acceptance : (s : List ℕ) (job : Job) (weights after : List ℕ) → Case
 acceptance s job weights after =
-    reader s places (record { answer = accepted; job = job; count = length weights; weights = weights }) after []
+    reader s places (record { answer = accepted; job = job; count = length weights; weights = weights }) after [] (partOf 0 0)
 
--- "A refusal writes nothing.", and its other numbers are 0
-abbrev refusal : (s : List ℕ) (number line : ℕ) (word : String) → Case
-refusal s number line word =
+-- "A refusal writes nothing.", and its other numbers are 0; the word is so many bytes of the sheet, from byte `start` on
+abbrev refusal : (s : List ℕ) (number line : ℕ) (word : String) (start count : ℕ) → Case
+refusal s number line word start count =
     reader s places (record { answer = refused number line; job = jobOf (law 0 0 [] []) (startOf 0 0) 0; count = 0; weights = [] }) places
-    (ascii word)
+    (ascii word) (partOf start count)
 
 -- ---- level queries
 -- "Otherwise two totals"
@@ -176,14 +179,18 @@ cases =
     ∷ program (ascii "LAW 1 2\nTERM -1 0\nSTART 1 2\nLAST 1\nSEVERITY 1\nW 1\n") "TOTAL LOW HIGH BOUND\n0 1 2 1\n1 -1 0 2\n"
     ∷ program (ascii "LAW 1 1\nTERM 0 1\nSTART 0 1000000000\nLAST 1\nSEVERITY 1\nW 1\n") "REFUSED 10 1\n"
     -- P11: "the sheet above with `W 10n5` as its line 6 gives 24 at line 6 with the word `10n5`"
-    ∷ refusal (sheet "TERM 0 1" "W 10n5") 24 6 "10n5"
+    ∷ refusal (sheet "TERM 0 1" "W 10n5") 24 6 "10n5" 63 4
     ∷ program (sheet "TERM 0 1" "W 10n5") "REFUSED 24 6\n"
     -- P12: "with `TERM -0 1` as its line 2 it gives 24 at line 2 with the word `-0`"
-    ∷ refusal (sheet "TERM -0 1" "W 1") 24 2 "-0"
+    ∷ refusal (sheet "TERM -0 1" "W 1") 24 2 "-0" 13 2
+    -- a word whose bytes stand earlier too, and "`START 1 ` plus a line end gives 24, empty word", whose bytes stand everywhere
+    ∷ refusal (ascii "LAW LAW 1\n") 24 1 "LAW" 4 3
+    ∷ refusal (sheet "TERM 0 1" "W W") 24 6 "W" 63 1
+    ∷ refusal (ascii "LAW 1 1\nTERM 0 1\nSTART 1 \n") 24 3 "" 25 0
     -- "`W  1` gives 23"
-    ∷ refusal (sheet "TERM 0 1" "W  1") 23 6 ""
+    ∷ refusal (sheet "TERM 0 1" "W  1") 23 6 "" 0 0
     -- "bytes after the last `W` line give 26"
-    ∷ refusal (sheet "TERM 0 1" "W 1\nW 1") 26 8 ""
+    ∷ refusal (sheet "TERM 0 1" "W 1\nW 1") 26 8 "" 0 0
     -- P9: "rows of P1, L 500000000: sure 1, possible 1"
     ∷ level lowP1 highP1 (pos 500000000) (totals 1 1)
     -- P10: "L 900000000: 34"
@@ -242,6 +249,13 @@ abbrev pub sameTold : Told → Told → Bool
 sameTold x y =
     sameBytes (wholeNumbers x) (wholeNumbers y) && (sameList sameRow (terms x) (terms y) && sameBytes (x .weights) (y .weights))
 
+-- a part of the sheet, as a list
+abbrev pub partNumbers : Part → List ℕ
+partNumbers part = part .start ∷ part .count ∷ []
+
+abbrev pub samePart : Part → Part → Bool
+samePart x y = sameBytes (partNumbers x) (partNumbers y)
+
 -- a query's answer, as a list
 abbrev pub queryNumbers : Quantiles → List ℕ
 queryNumbers x = x .answer .number ∷ x .answer .place ∷ x .sure ∷ x .possible ∷ []
@@ -252,8 +266,9 @@ sameQuantiles x y = sameBytes (queryNumbers x) (queryNumbers y)
 abbrev pub test : Case → Bool
 test (curve job weights lent answer after) =
     sameAnswer (curveAnswer job weights lent) answer && sameLent (curveLent job weights lent) after
-test (reader s row says after word) =
+test (reader s row says after word part) =
     sameTold (told (reading (length row) s)) says
-    && (sameBytes (rowOnReturn (reading (length row) s) row) after && sameBytes (faultyWord (length row) s) word)
+    && (sameBytes (rowOnReturn (reading (length row) s) row) after
+    && (sameBytes (faultyWord (length row) s) word && samePart (faultyPart (length row) s) part))
 test (level low high L answer) = sameQuantiles (quantiles low high L) answer
 test (program s text) = sameBytes (reportText s) (ascii text)

@@ -5,7 +5,7 @@ ghost use Prim.Native.Nat.{_≤_};
 ghost use lib.ListN.{length, drop};
 ghost use Rattle.io.specs.Counts.{Counts};
 ghost use Rattle.report.specs.Report.{reportText};
-ghost use Rattle.report.specs.Room.{inputBytes};
+ghost use Rattle.report.specs.Fits.{inputBytes};
 
 // Reads once into `rest`; the answer is the number of bytes, 0 where the input has ended or the read failed. The contracts of reading
 // speak of this number alone, since libc's says nothing of the bytes.

@@ -1,13 +1,14 @@
 // The sheet reader, and the place of the faulty word.
 
+use fault::faulty_part;
+use lines::reason_number;
 use sheet::LineAnswer;
-use sheet::faulty_part;
 use sheet::read_sheet;
-use sheet::reason_number;
 ghost use mathlib.Core.Path.{_≡_};
 ghost use lib.ListN.{length};
 ghost use Rattle.sheet.specs.Reading.{reading};
-ghost use Rattle.sheet.specs.Call.{answerOf, told, rowOnReturn, partOf, faultyPart};
+ghost use Rattle.sheet.specs.Call.{answerOf, told, rowOnReturn};
+ghost use Rattle.fault.specs.Call.{partOf, faultyPart};
 ghost use Rattle.interface.specs.Handed.{returned, jobOfNumbers, tells};
 
 fn number_of(answer: LineAnswer) -> u64
@@ -74,11 +75,11 @@ pub extern "C" fn claimtotals_faulty_word(
     sheet: &[u8],
     places: usize,
     start: &mut usize,
-    length: &mut usize,
+    count: &mut usize,
 )
-    ensures { λ _. ⌜ partOf (now (start .exit)) (now (length .exit)) ≡ faultyPart places (now (sheet .entry)) ⌝ }
+    ensures { λ _. ⌜ partOf (now (start .exit)) (now (count .exit)) ≡ faultyPart places (now (sheet .entry)) ⌝ }
 {
     let part = faulty_part(sheet, places);
     *start = part.start;
-    *length = part.length;
+    *count = part.count;
 }

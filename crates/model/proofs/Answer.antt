@@ -37,18 +37,18 @@ by-first P true number place rest this others = this refl
 by-first P false number place rest this others = others refl
 
 -- each condition has a number of its own, which is not the acceptance's 0
-abbrev pub numbered : List Condition → Bool
-numbered = every (λ c. ltb 0 (c .number))
+abbrev pub allNumbered : List Condition → Bool
+allNumbered = every (λ c. ltb 0 (c .number))
 
-not-zero : (c : Condition) (cs : List Condition) → T (numbered (c ∷ cs)) → ¬ (c .number ≡ 0)
-not-zero c cs t e = NL.not-suc-le-zero (rw e at (ltb→lt 0 (c .number) (and-left (ltb 0 (c .number)) (numbered cs) t)))
+not-zero : (c : Condition) (cs : List Condition) → T (allNumbered (c ∷ cs)) → ¬ (c .number ≡ 0)
+not-zero c cs t e = NL.not-suc-le-zero (rw e at (ltb→lt 0 (c .number) (and-left (ltb 0 (c .number)) (allNumbered cs) t)))
 
 -- two lists, one after the other: the second counts where the first refuses nothing
-pub first-append : (cs ds : List Condition) → T (numbered cs)
+pub first-append : (cs ds : List Condition) → T (allNumbered cs)
     → firstOf (cs ++ ds) ≡ cond (isAccepted (firstOf cs)) (firstOf ds) (firstOf cs)
 unfolding firstOf
 first-append [] ds t = refl
-first-append (c ∷ cs) ds t = by (c .holds) (first-append cs ds (and-right (ltb 0 (c .number)) (numbered cs) t))
+first-append (c ∷ cs) ds t = by (c .holds) (first-append cs ds (and-right (ltb 0 (c .number)) (allNumbered cs) t))
   where
     refusal : Answer
     refusal = refused (c .number) (c .place)
@@ -112,10 +112,10 @@ abbrev NoneHolds : List Condition → Type 0
 NoneHolds cs = (number : ℕ) → conditionOf cs number .holds ≡ false
 
 -- of two lists, one after the other, the first has no condition that holds, and the second accepts too
-pub none-holds : (cs ds : List Condition) → T (numbered cs) → firstOf (cs ++ ds) ≡ accepted → NoneHolds cs × (firstOf ds ≡ accepted)
+pub none-holds : (cs ds : List Condition) → T (allNumbered cs) → firstOf (cs ++ ds) ≡ accepted → NoneHolds cs × (firstOf ds ≡ accepted)
 unfolding firstOf
 none-holds [] ds t e = (λ number. refl, e)
-none-holds (c ∷ cs) ds t e = by (c .holds) refl e (none-holds cs ds (and-right (ltb 0 (c .number)) (numbered cs) t))
+none-holds (c ∷ cs) ds t e = by (c .holds) refl e (none-holds cs ds (and-right (ltb 0 (c .number)) (allNumbered cs) t))
   where
     by : (b : Bool) → c .holds ≡ b → cond b (refused (c .number) (c .place)) (firstOf (cs ++ ds)) ≡ accepted
         → (firstOf (cs ++ ds) ≡ accepted → NoneHolds cs × (firstOf ds ≡ accepted)) → NoneHolds (c ∷ cs) × (firstOf ds ≡ accepted)
@@ -127,7 +127,7 @@ none-holds (c ∷ cs) ds t e = by (c .holds) refl e (none-holds cs ds (and-right
         either false d later = later
 
 -- where both together refuse nothing, the first does not
-pub first-passed : (cs ds : List Condition) → T (numbered cs) → firstOf (cs ++ ds) ≡ accepted → isAccepted (firstOf cs) ≡ true
+pub first-passed : (cs ds : List Condition) → T (allNumbered cs) → firstOf (cs ++ ds) ≡ accepted → isAccepted (firstOf cs) ≡ true
 first-passed cs ds t e = by (isAccepted (firstOf cs)) refl (sym (first-append cs ds t) ∙ e)
   where
     by : (b : Bool) → isAccepted (firstOf cs) ≡ b → cond b (firstOf ds) (firstOf cs) ≡ accepted → isAccepted (firstOf cs) ≡ true

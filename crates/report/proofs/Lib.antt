@@ -1,3 +1,3 @@
 -- What is proved of the program's text.
-pub mod Room
+pub mod Fits
 pub mod Outcome

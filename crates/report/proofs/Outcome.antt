@@ -17,7 +17,7 @@ use Rattle.sheet.proofs.Texts.{takes-all-texts}
 use Rattle.compound.specs.Call.{curveAnswer}
 use Rattle.report.specs.Report.{mostWeights, programRows, curveText, reportText}
 use Rattle.report.specs.Report.{Table, Refusal, TableOrRefusal, AcceptedHasTable}
-use Rattle.report.proofs.Room.{BySheet, reading-by-sheet, answers}
+use Rattle.report.proofs.Fits.{BySheet, reading-by-sheet, answers}
 
 abbrev Decided : Answer → Type 0
 Decided answer = (answer ≡ accepted) ⊎ (isAccepted answer ≡ false)

@@ -1,3 +1,3 @@
 -- The program's text.
 pub mod Report
-pub mod Room
+pub mod Fits

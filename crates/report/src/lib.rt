@@ -1,6 +1,6 @@
 // The program's text: from a sheet's bytes to the bytes that `curve` writes.
 
-mod lines;
+mod layout;
 
 use compound::CurveAnswer;
 use model::Job;
@@ -33,10 +33,10 @@ fn put_curve(out: &mut [u8], job: Job, weights: &[u64]) -> usize
     let answer = compound::curve(job, weights, &mut low, &mut high, &mut bound, &mut work);
     match answer {
         CurveAnswer::Accepted => {
-            lines::put_table(out, job.last as usize + 1, &low, &high, &bound)
+            layout::put_table(out, job.last as usize + 1, &low, &high, &bound)
         }
         CurveAnswer::Refused(reason, place) => {
-            lines::put_refusal(out, compound::reason_number(reason), place)
+            layout::put_refusal(out, compound::reason_number(reason), place)
         }
     }
 }
@@ -56,7 +56,7 @@ pub fn report(sheet: &[u8], out: &mut [u8; ROOM]) -> usize
             put_curve(out, job, &row[..count])
         }
         LineAnswer::Refused(reason, line) => {
-            lines::put_refusal(out, sheet::reason_number(reason), line)
+            layout::put_refusal(out, lines::reason_number(reason), line)
         }
     }
 }

@@ -1,63 +1,19 @@
 -- The reader's definitions, a line at a time, as the code meets them. In a loop over lines, count - i are due after the first i.
-use mathlib.Core.Path.{_≡_, refl, sym, ap, _∙_}
-use mathlib.Core.Bool.{Bool, false, true}
+use mathlib.Core.Path.{_≡_, refl}
+use mathlib.Core.Bool.{false, true}
 use mathlib.Core.List.{List, [], _∷_}
 use Prim.Native.Nat.{ℕ, _+_, _-_, _≤_, _<_}
-use native.Mathlib.Nat.{add-assoc, sub-self, lt-trans, not-suc-le-zero}
+use native.Mathlib.Nat.{add-assoc, sub-self, not-suc-le-zero}
 use native.Mathlib.Numerals.{add-one}
-use native.Mathlib.Omega.{arith}
-use mir.Syntax.{w64}
-use mir.Val.{toZ, ofZ}
-use mir.Facts.{toZ-ofZ}
-use lib.Dec.{lit<}
-use lib.IntN.{ℤ, pos, natAbs}
-use lib.ListN.{length, take, drop, getD, set}
+use lib.IntN.{ℤ, pos}
+use lib.ListN.{length, take, set}
 use lib.Seq.{take-suc-set}
-use Rattle.algebra.proofs.Size.{size-fits}
-use Rattle.algebra.proofs.Slice.{part-to-end}
 use Rattle.model.specs.declared.Law.{Law}
 use Rattle.model.specs.declared.Job.{Job}
-use Rattle.text.specs.Numbers.{signFits}
 use Rattle.text.proofs.Scan.{one-fewer}
-use Rattle.sheet.specs.declared.Reason.{Reason}
-use Rattle.sheet.specs.declared.line.LineRead.{LineRead}
-use Rattle.sheet.specs.declared.line.LineRead.the-variants as R
-use Rattle.sheet.specs.Sheet.{TERM, W}
-use Rattle.sheet.specs.Line.{numbers, faulty, line}
+use Rattle.lines.specs.Keywords.{TERM, W}
+use Rattle.lines.specs.Line.{numbers, faulty, line}
 use Rattle.sheet.specs.Reading.{Reading, reads, refuses, sheetOf, withTerm, weightLines, startLine, termLines}
-use Rattle.sheet.specs.Call.{numberOf}
-use Rattle.sheet.specs.Parts.{lineOf, nextOf}
-use Rattle.sheet.proofs.LineParsed.{line-parsed}
-
--- ---- one line
--- what the code has of a line that gives numbers
-pub record GoodLine (signs : Bool) (keyword : List ℕ) (count : ℕ) (s : List ℕ) (y z : ℤ) (next : ℕ) : Type 0 where
-  -- it goes on with the part of s from the next line to the end
-  pub gives : line signs keyword count s ≡ numbers (take count (y ∷ z ∷ [])) (take (length s - next) (drop next s))
-  pub within : next ≤ length s
-  -- a local of 64 bits holds each number, with its sign
-  pub held : (i : ℕ) → let v = getD (take count (y ∷ z ∷ [])) i (pos 0) in toZ w64 (ofZ w64 v) ≡ v
-  pub fit : (i : ℕ) → signFits signs (toZ w64 (ofZ w64 (getD (take count (y ∷ z ∷ [])) i (pos 0)))) ≡ true
-
-module _ (signs : Bool) (keyword : List ℕ) (count : ℕ) (s : List ℕ) {read : LineRead} where
-  pub good-line : (lineOf count s read ≡ line signs keyword count s) × (nextOf read ≤ length s) → {y z : ℤ} {next : ℕ}
-      → read ≡ R.Numbers y z next → GoodLine signs keyword count s y z next
-  good-line says {y} {z} {next} e =
-      let zs = take count (y ∷ z ∷ []) in
-      let gives = sym (says .0) ∙ ap (lineOf count s) e ∙ ap (numbers zs) (sym (part-to-end s next)) in
-      let parsed = line-parsed signs keyword count s zs (take (length s - next) (drop next s)) gives in
-      let held : (i : ℕ) → toZ w64 (ofZ w64 (getD zs i (pos 0))) ≡ getD zs i (pos 0) =
-      λ i. toZ-ofZ (size-fits w64 (getD zs i (pos 0)) (lt-trans (parsed .small i) (lit< tt))) in
-      record {
-        gives = gives;
-        within = omega (arith, says .1, ap nextOf e);
-        held = held;
-        fit = λ i. rw (held i) (parsed .fit i);
-      }
-
-  pub faulty-line : (lineOf count s read ≡ line signs keyword count s) × (nextOf read ≤ length s) → {reason : Reason}
-      → read ≡ R.Refused reason → line signs keyword count s ≡ faulty (numberOf reason)
-  faulty-line says e = sym (says .0) ∙ ap (lineOf count s) e
 
 -- ---- lines `W w`
 -- what s gives where i of the lines are read, the first of them line n, and the first i places of the row hold their weights
@@ -65,10 +21,10 @@ abbrev pub weightsDue : Job → List ℕ → ℕ → ℕ → ℕ → List ℕ �
 weightsDue job row count i n s = weightLines job (take i row) (count - i) (n + i) s
 
 module _ (job : Job) (row : List ℕ) (count i n : ℕ) (s : List ℕ) where
-  pub weight-good : i < count → i < length row → {w : ℕ} {z : ℤ} {rest : List ℕ} → w ≡ natAbs z → line false W 1 s ≡ numbers (z ∷ []) rest
+  pub weight-good : i < count → i < length row → {w : ℕ} {rest : List ℕ} → line false W 1 s ≡ numbers (pos w ∷ []) rest
       → weightsDue job row count i n s ≡ weightsDue job (set row i w) count (i + 1) n rest
   unfolding weightLines
-  weight-good h k {w} size e = rw (one-fewer count i h, e, add-assoc n i 1, add-one i, take-suc-set row i w k, size)
+  weight-good h k {w} e = rw (one-fewer count i h, e, add-assoc n i 1, add-one i, take-suc-set row i w k)
 
   pub weight-faulty : i < count → {number : ℕ} → line false W 1 s ≡ faulty number → weightsDue job row count i n s ≡ refuses number (n + i)
   unfolding weightLines

@@ -3,6 +3,7 @@
 use mathlib.Core.Path.{_≡_, refl, sym, ap, subst, subst₂, _∙_}
 use mathlib.Core.Bool.{Bool, true, false, cond}
 use mathlib.Core.List.{List, [], _∷_, _++_, append-assoc, append-nil}
+use mathlib.Core.Option.{none}
 use Prim.Native.Nat.{ℕ, zero, suc, _+_, _-_, _≤_, _<_, zero-le}
 use native.Mathlib.Decide.{ℕ-discrete}
 use native.Mathlib.Numerals.{add-one}
@@ -17,20 +18,21 @@ use Rattle.model.specs.declared.Law.{Law}
 use Rattle.model.specs.declared.Start.{Start}
 use Rattle.model.specs.declared.Job.{Job}
 use Rattle.model.specs.Limits.{outside}
+use Rattle.model.specs.Job.{startOf, jobOf}
 use Rattle.model.proofs.Tests.{within}
 use Rattle.text.specs.Bytes.{lineEnd}
 use Rattle.text.specs.Lines.{after, afterLines, lineAt}
 use Rattle.text.specs.Numbers.{AtMostTenDigits}
 use Rattle.text.specs.LineText.{lineText}
 use Rattle.text.proofs.Scan.{lines-last}
-use Rattle.sheet.specs.Sheet.{LAW, TERM, START, LAST, SEVERITY, W, termsText, weightsText, sheetText}
-use Rattle.sheet.specs.Line.{Line, numbers, faulty, line}
-use Rattle.sheet.specs.Reading.{Reading, reads, refuses, on, signed, whole, noTerms, withTerm, sheetOf}
-use Rattle.model.specs.Job.{startOf, jobOf}
+use Rattle.lines.specs.Keywords.{LAW, TERM, START, LAST, SEVERITY, W}
+use Rattle.lines.specs.Line.{Line, numbers, faulty, allNumbers, line, signed, natural, numberWords, signsOn}
+use Rattle.lines.proofs.LineParsed.{Parsed, LineFacts, line-facts, pair, one-natural, two-natural}
+use Rattle.sheet.specs.Sheet.{termsText, weightsText, sheetText}
+use Rattle.sheet.specs.Reading.{Reading, reads, refuses, on, noTerms, withTerm, sheetOf}
 use Rattle.sheet.specs.Reading.{weightLines, severityLine, lastLine, startLine, termLines, lawLine, reading}
-use Rattle.sheet.specs.Call.{told, numberWords, signsOn, faultOn}
-use Rattle.sheet.specs.Accepts.{Terms, Writable, FirstFaulty, TakesOnlyTexts, HandsBackFirstFaulty}
-use Rattle.sheet.proofs.LineParsed.{Parsed, LineFacts, line-facts, pair, one-whole, two-whole}
+use Rattle.sheet.specs.Call.{told}
+use Rattle.sheet.specs.Accepts.{Terms, Writable, TakesOnlyTexts, NamesFaultyLine}
 
 -- ---- what is read, and its text
 -- a law whose first i terms are read
@@ -150,8 +152,7 @@ module _ (places : ℕ) (all : List ℕ) where
   -- what is to be shown of the reading of a whole sheet
   abbrev Right : Reading → Type 0
   Right (reads sheet) = Writable sheet × (length (sheet .weights) ≤ places) × (all ≡ sheetText sheet)
-  Right (refuses number n) =
-      number ≡ 24 → FirstFaulty (signsOn (lineAt n all)) (numberWords (lineAt n all)) (faultOn (lineAt n all))
+  Right (refuses number n) = number ≡ 24 → allNumbers (signsOn (lineAt n all)) (numberWords (lineAt n all)) ≡ none
 
   -- the reader stands at line n: the bytes `done` are read, and s is what follows them
   record Stands (n : ℕ) (done s : List ℕ) : Type 0 where
@@ -176,7 +177,9 @@ module _ (places : ℕ) (all : List ℕ) where
               reached = ap (λ (k : ℕ). afterLines k all) (omega arith) ∙ lines-last (n - 1) all
                   ∙ ap (after lineEnd) (here .reached) ∙ p .next;
             })
-        by (faulty reason) f = λ e. rw (here .reached) (f e same)
+        by (faulty reason) f = λ e.
+            let says = ap (λ (w : List ℕ). sameList eqb w TERM) (f e .0) ∙ same in
+            rw (here .reached, says) (f e .1)
 
   -- a refusal by a number that is not 24
   unless : (t : Bool) (number n : ℕ) (r : Reading) → (number ≡ 24 → ⊥) → (t ≡ false → Right r) → Right (cond t (refuses number n) r)
@@ -194,33 +197,33 @@ module _ (places : ℕ) (all : List ℕ) where
         (writable job ws fits (omega arith) (omega arith) small, omega arith, text)
     weights ws zero n (b ∷ s) e small here = λ h. absurd (omega arith)
     weights ws (suc due) n s e small here = goes-on false W 1 _ refl here λ zs rest p there.
-        let w = whole zs 0 in
+        let w = natural zs 0 in
         weights (ws ++ (w ∷ [])) due (n + 1) rest (simp length-append (omega arith)) (weight-small ws w (p .small 0) small)
-        (rw (one-whole p, table-text job m ws w) at there)
+        (rw (one-natural p, table-text job m ws w) at there)
 
   severity : (job : Job) (n : ℕ) (s : List ℕ) → JobFits job → Stands n (jobText job) s → Right (severityLine places job n s)
   unfolding severityLine weightsText
   severity job n s fits here = goes-on false SEVERITY 1 _ refl here λ zs rest p there.
-      let m = whole zs 0 in
+      let m = natural zs 0 in
       unless (outside 1 500 m) 25 n _ (λ e. omega arith) λ inside.
       unless (ltb places m) 27 n _ (λ e. omega arith) λ room.
       let limits = within 1 500 m inside in
       weights job m fits (limits .0) (limits .1) (ltb-false places m room) [] m (n + 1) rest (omega arith) (λ i. lit< tt)
-      (rw append-nil (rw (one-whole p) at there))
+      (rw append-nil (rw (one-natural p) at there))
 
   last : (law : Law) (start : Start) (n : ℕ) (s : List ℕ) → LawFits law (law .order)
       → AtMostTenDigits (pos (start .low)) → AtMostTenDigits (pos (start .high)) → Stands n (startText law start) s
       → Right (lastLine places law start n s)
   unfolding lastLine
   last law start n s fits low high here = goes-on false LAST 1 _ refl here λ zs rest p there.
-      severity (jobOf law start (whole zs 0)) (n + 1) rest (record { law = fits; low = low; high = high; last = p .small 0 })
-      (rw (one-whole p) at there)
+      severity (jobOf law start (natural zs 0)) (n + 1) rest (record { law = fits; low = low; high = high; last = p .small 0 })
+      (rw (one-natural p) at there)
 
   start : (law : Law) (n : ℕ) (s : List ℕ) → LawFits law (law .order) → Stands n (lawText law (law .order)) s
       → Right (startLine places law n s)
   unfolding startLine
   start law n s fits here = goes-on false START 2 _ refl here λ zs rest p there.
-      last law (startOf (whole zs 0) (whole zs 1)) (n + 1) rest fits (p .small 0) (p .small 1) (rw (two-whole p) at there)
+      last law (startOf (natural zs 0) (natural zs 1)) (n + 1) rest fits (p .small 0) (p .small 1) (rw (two-natural p) at there)
 
   terms : (law : Law) (i due : ℕ) (s : List ℕ) → i + due ≡ law .order → LawFits law i → Stands (i + 2) (lawText law i) s
       → Right (termLines places law i due s)
@@ -239,12 +242,12 @@ module _ (places : ℕ) (all : List ℕ) where
   law : (s : List ℕ) → Stands 1 [] s → Right (lawLine places s)
   unfolding lawLine termsText
   law s here = goes-on false LAW 2 _ refl here λ zs rest p there.
-      let k = whole zs 0 in
+      let k = natural zs 0 in
       unless (outside 1 4 k) 25 1 _ (λ e. omega arith) λ inside.
       let limits = within 1 4 k inside in
-      terms (noTerms k (whole zs 1)) 0 k rest (omega arith)
+      terms (noTerms k (natural zs 1)) 0 k rest (omega arith)
       (record { order-least = limits .0; order-most = limits .1; divisor = p .small 1; a = no-terms; b = no-terms })
-      (rw append-nil (rw (two-whole p) at there))
+      (rw append-nil (rw (two-natural p) at there))
 
   right : Right (reading places all)
   unfolding reading afterLines
@@ -262,5 +265,5 @@ counted places s = by (reading places s) refl
     by (reads sheet) e = let taken = takes-only-texts places s sheet e in (taken .0 .count-most, taken .1)
     by (refuses number line) e = (zero-le, zero-le)
 
-pub hands-back-first-faulty : HandsBackFirstFaulty
-hands-back-first-faulty places s n e = rw e (subst (Right places s) e (right places s) refl)
+pub names-faulty-line : NamesFaultyLine
+names-faulty-line places s n e = subst (Right places s) e (right places s) refl

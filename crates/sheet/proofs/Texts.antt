@@ -15,10 +15,11 @@ use Rattle.model.proofs.Tests.{inside}
 use Rattle.text.specs.Lines.{has}
 use Rattle.text.specs.Numbers.{AtMostTenDigits}
 use Rattle.text.specs.LineText.{lineText}
-use Rattle.sheet.specs.Sheet.{Sheet, LAW, TERM, START, LAST, SEVERITY, W, termsText, weightsText, sheetText}
+use Rattle.lines.specs.Keywords.{LAW, TERM, START, LAST, SEVERITY, W}
+use Rattle.lines.proofs.LinePrinted.{Held, one, two, two-signed, line-printed, line-length}
+use Rattle.sheet.specs.Sheet.{Sheet, termsText, weightsText, sheetText}
 use Rattle.sheet.specs.Reading.{reads, noTerms, sheetOf, weightLines, severityLine, lastLine, startLine, termLines, lawLine, reading}
 use Rattle.sheet.specs.Accepts.{Terms, Writable, TakesAllTexts, TextsFit}
-use Rattle.sheet.proofs.LinePrinted.{Held, one, two, two-signed, line-printed, line-length}
 
 -- ---- what is known of a law as its terms are read
 -- the first i terms, and zero for the others

@@ -1,19 +1,16 @@
 -- What is proved of the reader's definition, so that one need not read a parser to know which sheets it takes: exactly the texts of
 -- writable sheets that the row has room for.
 use mathlib.Core.Path.{_≡_}
-use mathlib.Core.Bool.{Bool}
-use mathlib.Core.List.{List, _∷_, _++_}
-use mathlib.Core.Option.{none, some}
-use Prim.Native.Nat.{ℕ, _+_, _≤_}
+use mathlib.Core.List.{List}
+use mathlib.Core.Option.{none}
+use Prim.Native.Nat.{ℕ, _≤_}
 use lib.IntN.{ℤ, pos}
 use lib.ListN.{length, getD}
-use Rattle.text.specs.Lines.{lineAt, lineStart, spaced}
-use Rattle.text.specs.Numbers.{AtMostTenDigits, number}
+use Rattle.text.specs.Lines.{lineAt}
+use Rattle.text.specs.Numbers.{AtMostTenDigits}
+use Rattle.lines.specs.Line.{allNumbers, numberWords, signsOn}
 use Rattle.sheet.specs.Sheet.{Sheet, sheetText}
-use Rattle.sheet.specs.Line.{allNumbers}
 use Rattle.sheet.specs.Reading.{reads, refuses, reading}
-use Rattle.sheet.specs.Call.{keywordOf, numberWords, signsOn, faultyWord, bytesOf, faultyPart}
-use Rattle.sheet.specs.declared.Part.{Part}
 
 -- the four terms of a law, at most 10 digits each; those past the order are zero
 pub record Terms (order : ℕ) (terms : List ℤ) : Type 0 where
@@ -49,31 +46,7 @@ TakesAllTexts = (places : ℕ) (sheet : Sheet) → Writable sheet → length (sh
 abbrev pub TextsFit : Type 0
 TextsFit = (sheet : Sheet) → Writable sheet → length (sheetText sheet) ≤ 16384
 
--- a word stands among others: it is no number, and the words before it are
-pub record FirstFaulty (signs : Bool) (ws : List (List ℕ)) (word : List ℕ) : Type 0 where
-  pub earlier : List (List ℕ)
-  pub later : List (List ℕ)
-  pub stands : ws ≡ earlier ++ (word ∷ later)
-  pub values : List ℤ
-  pub are-numbers : allNumbers signs earlier ≡ some values
-  pub is-no-number : number signs word ≡ none
-
--- with 24 the word handed back is the first on its line, after the keyword, that is no number there
-abbrev pub HandsBackFirstFaulty : Type 0
-HandsBackFirstFaulty = (places : ℕ) (s : List ℕ) (n : ℕ) → reading places s ≡ refuses 24 n
-    → FirstFaulty (signsOn (lineAt n s)) (numberWords (lineAt n s)) (faultyWord places s)
-
--- a part of a text is a word
-pub record PartIs (part : Part) (s word : List ℕ) : Type 0 where
-  pub within : part .start + part .length ≤ length s
-  pub bytes : bytesOf part s ≡ word
-
--- the faulty word is the part of the sheet that `faultyPart` names
-abbrev pub FaultyPartIsWord : Type 0
-FaultyPartIsWord = (places : ℕ) (s : List ℕ) → PartIs (faultyPart places s) s (faultyWord places s)
-
--- with 24 it begins on the refused line, behind the keyword and the words before it, with a space after each
-abbrev pub FaultyPartBegins : Type 0
-FaultyPartBegins = (places : ℕ) (s : List ℕ) (n : ℕ) → reading places s ≡ refuses 24 n
-    → (first : FirstFaulty (signsOn (lineAt n s)) (numberWords (lineAt n s)) (faultyWord places s))
-    → faultyPart places s .start ≡ lineStart n s + length (keywordOf (lineAt n s) ++ spaced (first .earlier)) + 1
+-- with 24 the line that is named has, after its keyword, a word that is no number there
+abbrev pub NamesFaultyLine : Type 0
+NamesFaultyLine = (places : ℕ) (s : List ℕ) (n : ℕ) → reading places s ≡ refuses 24 n
+    → allNumbers (signsOn (lineAt n s)) (numberWords (lineAt n s)) ≡ none

@@ -5,15 +5,16 @@ use mathlib.Core.Bool.{true, false, cond}
 use mathlib.Core.List.{List, [], _∷_, _++_}
 use Prim.Native.Nat.{ℕ, zero, suc, _+_}
 use lib.Dec.{ltb}
-use lib.IntN.{ℤ, pos, natAbs}
-use lib.ListN.{length, getD, set, replicate}
+use lib.IntN.{ℤ, pos}
+use lib.ListN.{length, set, replicate}
 use Rattle.model.specs.declared.Law.{Law}
 use Rattle.model.specs.declared.Start.{Start}
 use Rattle.model.specs.declared.Job.{Job}
 use Rattle.model.specs.Job.{lawOf, startOf, jobOf}
 use Rattle.model.specs.Limits.{mostOrder, mostSeverities, outside}
-use Rattle.sheet.specs.Sheet.{Sheet, LAW, TERM, START, LAST, SEVERITY, W}
-use Rattle.sheet.specs.Line.{Line, numbers, faulty, line}
+use Rattle.lines.specs.Keywords.{LAW, TERM, START, LAST, SEVERITY, W}
+use Rattle.lines.specs.Line.{Line, numbers, faulty, line, signed, natural}
+use Rattle.sheet.specs.Sheet.{Sheet}
 
 -- what a sheet gives: its numbers, or the number of a refusal and its line
 pub data Reading : Type 0 where
@@ -24,13 +25,6 @@ pub data Reading : Type 0 where
 abbrev pub on : Line → ℕ → (List ℤ → List ℕ → Reading) → Reading
 on (numbers zs rest) n next = next zs rest
 on (faulty number) n next = refuses number n
-
--- a line's number i; where no sign is allowed its size is the number itself
-abbrev pub signed : List ℤ → ℕ → ℤ
-signed zs i = getD zs i (pos 0)
-
-abbrev pub whole : List ℤ → ℕ → ℕ
-whole zs i = natAbs (signed zs i)
 
 -- ---- what is known of a job as lines are read
 abbrev pub noTerms : ℕ → ℕ → Law
@@ -48,23 +42,23 @@ unfoldable pub weightLines : Job → List ℕ → ℕ → ℕ → List ℕ → R
 weightLines job ws zero n [] = reads (sheetOf job ws)
 weightLines job ws zero n (b ∷ s) = refuses 26 n
 weightLines job ws (suc due) n s =
-    on (line false W 1 s) n (λ zs rest. weightLines job (ws ++ (whole zs 0 ∷ [])) due (n + 1) rest)
+    on (line false W 1 s) n (λ zs rest. weightLines job (ws ++ (natural zs 0 ∷ [])) due (n + 1) rest)
 
 -- `places` is the number of places that the lent row has
 unfoldable pub severityLine : ℕ → Job → ℕ → List ℕ → Reading
 severityLine places job n s =
     on (line false SEVERITY 1 s) n
-    (λ zs rest. cond (outside 1 mostSeverities (whole zs 0)) (refuses 25 n)
-    (cond (ltb places (whole zs 0)) (refuses 27 n)
-    (weightLines job [] (whole zs 0) (n + 1) rest)))
+    (λ zs rest. cond (outside 1 mostSeverities (natural zs 0)) (refuses 25 n)
+    (cond (ltb places (natural zs 0)) (refuses 27 n)
+    (weightLines job [] (natural zs 0) (n + 1) rest)))
 
 unfoldable pub lastLine : ℕ → Law → Start → ℕ → List ℕ → Reading
 lastLine places law start n s =
-    on (line false LAST 1 s) n (λ zs rest. severityLine places (jobOf law start (whole zs 0)) (n + 1) rest)
+    on (line false LAST 1 s) n (λ zs rest. severityLine places (jobOf law start (natural zs 0)) (n + 1) rest)
 
 unfoldable pub startLine : ℕ → Law → ℕ → List ℕ → Reading
 startLine places law n s =
-    on (line false START 2 s) n (λ zs rest. lastLine places law (startOf (whole zs 0) (whole zs 1)) (n + 1) rest)
+    on (line false START 2 s) n (λ zs rest. lastLine places law (startOf (natural zs 0) (natural zs 1)) (n + 1) rest)
 
 -- `due` lines `TERM A B`, after those of the first i terms, which the law has
 unfoldable pub termLines : ℕ → Law → ℕ → ℕ → List ℕ → Reading
@@ -76,8 +70,8 @@ termLines places law i (suc due) s =
 unfoldable pub lawLine : ℕ → List ℕ → Reading
 lawLine places s =
     on (line false LAW 2 s) 1
-    (λ zs rest. cond (outside 1 mostOrder (whole zs 0)) (refuses 25 1)
-    (termLines places (noTerms (whole zs 0) (whole zs 1)) 0 (whole zs 0) rest))
+    (λ zs rest. cond (outside 1 mostOrder (natural zs 0)) (refuses 25 1)
+    (termLines places (noTerms (natural zs 0) (natural zs 1)) 0 (natural zs 0) rest))
 
 -- the whole sheet
 unfoldable pub reading : ℕ → List ℕ → Reading

@@ -6,32 +6,13 @@ use lib.IntN.{pos}
 use lib.ListN.{length, getD}
 use Rattle.model.specs.declared.Law.{Law}
 use Rattle.model.specs.declared.Job.{Job}
-use Rattle.text.specs.Bytes.{ascii}
 use Rattle.text.specs.LineText.{lineText}
+use Rattle.lines.specs.Keywords.{LAW, TERM, START, LAST, SEVERITY, W}
 
 -- a job and the weights of its table
 pub record Sheet : Type 0 where
   pub job : Job
   pub weights : List ℕ
-
--- ---- keywords
-abbrev pub LAW : List ℕ
-LAW = ascii "LAW"
-
-abbrev pub TERM : List ℕ
-TERM = ascii "TERM"
-
-abbrev pub START : List ℕ
-START = ascii "START"
-
-abbrev pub LAST : List ℕ
-LAST = ascii "LAST"
-
-abbrev pub SEVERITY : List ℕ
-SEVERITY = ascii "SEVERITY"
-
-abbrev pub W : List ℕ
-W = ascii "W"
 
 -- ---- the text
 -- the lines of `due` terms, the first of them term i + 1

@@ -1,10 +1,8 @@
 // The sheet reader: the numbers of a job and the weights of its table, from a sheet's bytes.
 
-mod fault;
-mod line;
 pub mod reader;
 
-use fault::first_fault;
+use lines::Reason;
 use model::Job;
 use reader::read_text;
 ghost use mathlib.Core.Path.{_≡_};
@@ -12,28 +10,10 @@ ghost use Prim.Native.Nat.{_≤_};
 ghost use lib.ListN.{length};
 ghost use Rattle.algebra.specs.Slice.{written};
 ghost use Rattle.sheet.specs.Reading.{reading};
-ghost use Rattle.sheet.specs.Call.{numberOf, paper, told, rowOnReturn, faultyWord, faultyPart};
+ghost use Rattle.sheet.specs.Call.{paper, told, rowOnReturn};
 
 // The most weights that a sheet may have, and so the places of the reader's own row.
 const MOST_WEIGHTS: usize = 500;
-
-// Why a sheet is refused.
-pub enum Reason {
-    // 21: empty or over 16,384 bytes.
-    Size,
-    // 22: the line due is missing or has no line end.
-    Missing,
-    // 23: wrong keyword or wrong count of words.
-    Form,
-    // 24: a word that is no number here.
-    Word,
-    // 25: k not 1 to 4, or m not 1 to 500.
-    Limit,
-    // 26: bytes follow the final line.
-    Excess,
-    // 27: the row has fewer places than there are weights.
-    Room,
-}
 
 pub enum LineAnswer {
     Accepted,
@@ -46,27 +26,6 @@ pub struct SheetRead {
     pub answer: LineAnswer,
     pub job: Job,
     pub count: usize,
-}
-
-// A part of a sheet: so many bytes from `start` on, which is counted from 0.
-pub struct Part {
-    pub start: usize,
-    pub length: usize,
-}
-
-// The paper's number of a reason.
-pub fn reason_number(reason: Reason) -> u64
-    ensures { λ r. ⌜ r ≡ numberOf reason ⌝ }
-{
-    match reason {
-        Reason::Size => 21,
-        Reason::Missing => 22,
-        Reason::Form => 23,
-        Reason::Word => 24,
-        Reason::Limit => 25,
-        Reason::Excess => 26,
-        Reason::Room => 27,
-    }
 }
 
 // Puts `front` into the first places of the row.
@@ -90,40 +49,4 @@ pub fn read_sheet(sheet: &[u8], row: &mut [u64]) -> SheetRead
     let count = read.count;
     put(&weights[..count], row);
     read
-}
-
-// Where the word that refusal 24 is about stands in the sheet; an empty part at its front after any other answer. `places` is the number of
-// places of the row that the sheet was read for.
-pub fn faulty_part(sheet: &[u8], places: usize) -> Part
-    ensures { λ r. ⌜ r ≡ faultyPart places (now (sheet .entry)) ⌝ }
-{
-    let mut weights = [0u64; MOST_WEIGHTS];
-    let read = read_text(sheet, places, &mut weights);
-    let answer = read.answer;
-    match answer {
-        LineAnswer::Accepted => Part {
-            start: 0,
-            length: 0,
-        },
-        LineAnswer::Refused(reason, line) => {
-            if reason_number(reason) == 24 {
-                return first_fault(sheet, line);
-            }
-            Part {
-                start: 0,
-                length: 0,
-            }
-        }
-    }
-}
-
-// The word itself.
-pub fn faulty_word(sheet: &[u8], places: usize) -> &[u8]
-    ensures { λ r. ⌜ now r ≡ faultyWord places (now (sheet .entry)) ⌝ }
-{
-    let part = faulty_part(sheet, places);
-    let start = part.start;
-    let length = part.length;
-    let rest = &sheet[start..];
-    &rest[..length]
 }

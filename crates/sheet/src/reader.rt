@@ -4,13 +4,14 @@
 
 use super::LineAnswer;
 use super::MOST_WEIGHTS;
-use super::Reason;
 use super::SheetRead;
-use super::line::LineRead;
-use super::line::read_one;
-use super::line::read_two;
-use super::line::read_weight;
-use super::line::whole;
+use lines::Reason;
+use lines::line::OneRead;
+use lines::line::TwoRead;
+use lines::line::natural;
+use lines::line::read_one;
+use lines::line::read_two;
+use lines::line::read_weight;
 use model::Job;
 use model::Law;
 use model::Start;
@@ -19,9 +20,9 @@ ghost use mathlib.Core.Path.{_≡_};
 ghost use mathlib.Core.List.{List, []};
 ghost use Prim.Native.Nat.{ℕ, _≤_};
 ghost use lib.ListN.{length};
-ghost use Rattle.sheet.specs.Reading.{refuses, noTerms};
-ghost use Rattle.sheet.specs.Reading.{weightLines, severityLine, lastLine, startLine, termLines, lawLine, reading};
-ghost use Rattle.sheet.specs.Call.{numberOf, paper, told};
+ghost use Rattle.lines.specs.Reason.{numberOf};
+ghost use Rattle.sheet.specs.Reading.{refuses, noTerms, weightLines, severityLine, lastLine, startLine, termLines, lawLine, reading};
+ghost use Rattle.sheet.specs.Call.{paper, told};
 
 // The most bytes that a sheet may have.
 const MOST_BYTES: u64 = 16384;
@@ -59,9 +60,9 @@ fn read_weights(rest: &[u8], count: usize, line: usize, job: Job, weights: &mut 
     let mut left = rest;
     for i in 0..count {
         match read_weight(left) {
-            LineRead::Refused(reason) => return refused(reason, line + i),
-            LineRead::Numbers(w, _, next) => {
-                weights[i] = whole(w);
+            OneRead::Refused(reason) => return refused(reason, line + i),
+            OneRead::Number(w, next) => {
+                weights[i] = w;
                 left = &left[next..];
             }
         }
@@ -87,14 +88,13 @@ fn read_severity(
     ensures { λ r. ⌜ paper r (now (weights .exit)) ≡ told (severityLine places job line (now (rest .entry))) ⌝ }
 {
     match read_one(rest, b"SEVERITY") {
-        LineRead::Refused(reason) => refused(reason, line),
-        LineRead::Numbers(m, _, next) => {
-            let count = whole(m);
+        OneRead::Refused(reason) => refused(reason, line),
+        OneRead::Number(count, next) => {
             if is_outside(1, MOST_WEIGHTS as u64, count) {
                 return refused(Reason::Limit, line);
             }
             if places < count as usize {
-                return refused(Reason::Room, line);
+                return refused(Reason::Places, line);
             }
             read_weights(&rest[next..], count as usize, line + 1, job, weights)
         }
@@ -113,13 +113,9 @@ fn read_last(
     ensures { λ r. ⌜ paper r (now (weights .exit)) ≡ told (lastLine places law start line (now (rest .entry))) ⌝ }
 {
     match read_one(rest, b"LAST") {
-        LineRead::Refused(reason) => refused(reason, line),
-        LineRead::Numbers(x, _, next) => {
-            let job = Job {
-                law,
-                start,
-                last: whole(x),
-            };
+        OneRead::Refused(reason) => refused(reason, line),
+        OneRead::Number(last, next) => {
+            let job = Job { law, start, last };
             read_severity(&rest[next..], places, line + 1, job, weights)
         }
     }
@@ -130,11 +126,11 @@ fn read_start(rest: &[u8], places: usize, line: usize, law: Law, weights: &mut [
     ensures { λ r. ⌜ paper r (now (weights .exit)) ≡ told (startLine places law line (now (rest .entry))) ⌝ }
 {
     match read_two(rest, b"START", false) {
-        LineRead::Refused(reason) => refused(reason, line),
-        LineRead::Numbers(s, t, next) => {
+        TwoRead::Refused(reason) => refused(reason, line),
+        TwoRead::Numbers(s, t, next) => {
             let start = Start {
-                low: whole(s),
-                high: whole(t),
+                low: natural(s),
+                high: natural(t),
             };
             read_last(&rest[next..], places, line + 1, law, start, weights)
         }
@@ -158,8 +154,8 @@ fn read_terms(
     let count = order as usize;
     for i in 0..count {
         match read_two(left, b"TERM", true) {
-            LineRead::Refused(reason) => return refused(reason, i + 2),
-            LineRead::Numbers(y, z, next) => {
+            TwoRead::Refused(reason) => return refused(reason, i + 2),
+            TwoRead::Numbers(y, z, next) => {
                 a[i] = y;
                 b[i] = z;
                 left = &left[next..];
@@ -180,13 +176,13 @@ fn read_law(rest: &[u8], places: usize, weights: &mut [u64]) -> SheetRead
     ensures { λ r. ⌜ paper r (now (weights .exit)) ≡ told (lawLine places (now (rest .entry))) ⌝ }
 {
     match read_two(rest, b"LAW", false) {
-        LineRead::Refused(reason) => refused(reason, 1),
-        LineRead::Numbers(k, d, next) => {
-            let order = whole(k);
+        TwoRead::Refused(reason) => refused(reason, 1),
+        TwoRead::Numbers(k, d, next) => {
+            let order = natural(k);
             if is_outside(1, MOST_ORDER, order) {
                 return refused(Reason::Limit, 1);
             }
-            read_terms(&rest[next..], places, order, whole(d), weights)
+            read_terms(&rest[next..], places, order, natural(d), weights)
         }
     }
 }

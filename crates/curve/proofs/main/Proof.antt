@@ -9,8 +9,8 @@ use lib.Seq.{length-take-le, take-append-seam}
 use Rattle.algebra.specs.Slice.{written}
 use Rattle.algebra.proofs.Slice.{written-length}
 use Rattle.report.specs.Report.{reportText}
-use Rattle.report.specs.Room.{room}
-use Rattle.report.proofs.Room.{text-fits}
+use Rattle.report.specs.Fits.{room}
+use Rattle.report.proofs.Fits.{text-fits}
 use Rattle.curve.proofs.main.Statement.{statement}
 use Rattle.curve.proofs.main.Tie as tie
 

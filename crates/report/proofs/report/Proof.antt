@@ -11,22 +11,23 @@ use Rattle.algebra.specs.Slice.{written}
 use Rattle.model.specs.Answer.{Answer, accepted, refused}
 use Rattle.output.specs.Output.{Output, output, Puts}
 use Rattle.output.proofs.Put.{put-whole}
+use Rattle.lines.specs.declared.Reason.{Reason}
+use Rattle.lines.specs.declared.Reason.the-variants.{Size, Missing, Form, Word, Limit, Excess, Places}
+use Rattle.lines.specs.Reason.{numberOf}
 use Rattle.sheet.specs.declared.LineAnswer.{LineAnswer}
-use Rattle.sheet.specs.declared.Reason.{Reason}
-use Rattle.sheet.specs.declared.Reason.the-variants.{Size, Missing, Form, Word, Limit, Excess, Room}
 use Rattle.sheet.specs.Reading.{Reading, reads, refuses, reading}
-use Rattle.sheet.specs.Call.{Told, numberOf, answerOf, paper, told}
+use Rattle.sheet.specs.Call.{Told, answerOf, paper, told}
 use Rattle.sheet.proofs.Taken.{counted}
 use Rattle.report.specs.Report.{mostWeights, refusalLine, curveText, readingText, reportText}
-use Rattle.report.specs.Room.{room}
-use Rattle.report.proofs.Room.{BySheet, reading-by-sheet, text-fits}
+use Rattle.report.specs.Fits.{room}
+use Rattle.report.proofs.Fits.{BySheet, reading-by-sheet, text-fits}
 use Rattle.report.proofs.report.Statement.{statement}
 use Rattle.report.proofs.report.Tie as tie
 
 -- ---- the text, from what the reader tells
 accepted-text : (r : Reading) (t : Told) → BySheet r → t ≡ told r → accepted ≡ t .answer → readingText r ≡ curveText (t .job) (t .weights)
-accepted-text (reads sheet) t numbered e a = ap (λ (t : Told). curveText (t .job) (t .weights)) (sym e)
-accepted-text (refuses number n) t numbered e a =
+accepted-text (reads sheet) t own e a = ap (λ (t : Told). curveText (t .job) (t .weights)) (sym e)
+accepted-text (refuses number n) t own e a =
     let none : 0 ≡ number = ap (λ (x : Answer). x .number) (a ∙ ap (λ (t : Told). t .answer) e) in
     absurd (omega arith)
 
@@ -41,13 +42,13 @@ refused-text (reads sheet) reason n a = absurd (not-none reason (ap (λ (x : Ans
     not-none Word = λ e. omega arith
     not-none Limit = λ e. omega arith
     not-none Excess = λ e. omega arith
-    not-none Room = λ e. omega arith
+    not-none Places = λ e. omega arith
 refused-text (refuses number line) reason n a = ap refusalLine (sym a)
 
 -- ---- the answer and the buffer
-whole : (s row row' : List ℕ) (r : ℕ) → length row ≡ room → Puts (reportText s) (output row 0) (output row' r)
+in-buffer : (s row row' : List ℕ) (r : ℕ) → length row ≡ room → Puts (reportText s) (output row 0) (output row' r)
     → (r ≡ length (reportText s)) × (row' ≡ written (reportText s) row)
-whole s row row' r h p =
+in-buffer s row row' r h p =
     let e = p .is ∙ put-whole row (reportText s) (omega (arith, text-fits s)) in
     (ap (λ (o : Output). o .place) e, ap (λ (o : Output). o .row) e)
 
@@ -78,7 +79,7 @@ returns c =
     let read = told .before .before .before in
     let text = accepted-text (reader read) _ (reading-by-sheet mostWeights (le-refl mostWeights) (sheet read)) (tells read)
     (ap answerOf (sym (told .enum-told .given .1))) in
-    whole (sheet read) _ _ _ (search needs) (rw (sym text) at (c .put-curve .ensures))
+    in-buffer (sheet read) _ _ _ (search needs) (rw (sym text) at (c .put-curve .ensures))
 
 returns-2 : tie.Need-returns-2
 unfolding reportText
@@ -89,7 +90,7 @@ returns-2 c =
     let reason = answer .answer .given .0 .0 in
     let line = answer .answer .given .0 .1 .0 in
     let text = refused-text (reader read) reason line (answered read _ (answer .answer .given .1)) in
-    whole (sheet read) _ _ _ (search needs) (rw (number .reason-number .ensures, sym text) at (c .put-refusal .ensures))
+    in-buffer (sheet read) _ _ _ (search needs) (rw (number .reason-number .ensures, sym text) at (c .put-refusal .ensures))
 
 pub report-spec : {M : Type 1} → statement M
 report-spec =

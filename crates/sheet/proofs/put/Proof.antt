@@ -30,8 +30,8 @@ module _ (front row : List ℕ) (i : ℕ) (h : i ≤ length front) where
       ∙ ap (λ (f : List ℕ). written f row) (sym (ap (λ (n : ℕ). take n front) (add-one i) ∙ take-suc front i 0 l))
 
 -- the row keeps its length
-whole : (c : tie.At-loop Inv-loop μ-loop) → length (c .loop .row) ≡ length (c .before .args .row .now)
-whole c =
+kept : (c : tie.At-loop Inv-loop μ-loop) → length (c .loop .row) ≡ length (c .before .args .row .now)
+kept c =
     let a = c .before .args in
     ap length (c .loop .inv .1) ∙ front-length (a .front .now) (a .row .now) (c .loop .i) (c .loop .inv .0) (c .before .pre)
 
@@ -51,10 +51,10 @@ returns c =
     at .loop .inv .1 ∙ ap (λ (f : List ℕ). written f (a .row .now)) (take-all (at .loop .i) (a .front .now) (c .loop-test .left))
 
 slice-write-row : tie.Need-slice-write-row Inv-loop μ-loop
-slice-write-row c = let e = whole (c .before .before) in search needs
+slice-write-row c = let e = kept (c .before .before) in search needs
 
 same-length : tie.Need-same-length Inv-loop μ-loop
-same-length c = whole (c .before)
+same-length c = kept (c .before)
 
 pub put-spec : {M : Type 1} → statement M
 put-spec =

@@ -2,14 +2,14 @@
 use borrow.Author.Needs.{needs}
 use mathlib.Core.Path.{_≡_, sym, ap, _∙_}
 use mathlib.Core.Bool.{false}
-use mathlib.Core.List.{List}
+use mathlib.Core.List.{List, [], _∷_}
 use Prim.Native.Nat.{ℕ}
 use lib.IntN.{natAbs}
 use Rattle.model.specs.Limits.{outside}
 use Rattle.model.proofs.Tests.{within}
-use Rattle.sheet.specs.Sheet.{LAW}
+use Rattle.lines.specs.Keywords.{LAW}
+use Rattle.lines.proofs.GoodLine.{GoodLine, good-two, faulty-two}
 use Rattle.sheet.specs.Reading.{lawLine}
-use Rattle.sheet.proofs.Steps.{GoodLine, good-line, faulty-line}
 use Rattle.sheet.proofs.reader.read_law.Statement.{statement}
 use Rattle.sheet.proofs.reader.read_law.Tie as tie
 
@@ -17,13 +17,13 @@ abbrev rest : tie.After-read-two → List ℕ
 rest c = c .before .before .before .before .args .rest .now
 
 good : (c : tie.After-k)
-    → GoodLine false LAW 2 (rest (c .before .before)) (c .k .given .0 .0) (c .k .given .0 .1 .0) (c .k .given .0 .1 .1 .0)
-good c = good-line false LAW 2 (rest (c .before .before)) (c .before .before .read-two .ensures) (c .k .given .1)
+    → GoodLine false LAW (rest (c .before .before)) (c .k .given .0 .0 ∷ c .k .given .0 .1 .0 ∷ []) (c .k .given .0 .1 .1 .0)
+good c = good-two false LAW (rest (c .before .before)) (c .before .before .read-two .ensures) (c .k .given .1)
 
-order-is : (c : tie.After-whole) → c .whole .result ≡ natAbs (c .before .before .k .given .0 .0)
-order-is c = c .whole .ensures ∙ ap natAbs (good (c .before .before) .held 0)
+order-is : (c : tie.After-natural) → c .natural .result ≡ natAbs (c .before .before .k .given .0 .0)
+order-is c = c .natural .ensures ∙ ap natAbs (good (c .before .before) .held 0)
 
-inside : (c : tie.Else1) → outside 1 4 (c .before .before .whole .result) ≡ false
+inside : (c : tie.Else1) → outside 1 4 (c .before .before .natural .result) ≡ false
 inside c = sym (c .before .is-outside .ensures) ∙ c .if1 .left
 
 returns : tie.Need-returns
@@ -39,7 +39,7 @@ unfolding lawLine
 returns-2 c =
     let found = c .before .before in
     let read = found .before .before in
-    rw (faulty-line false LAW 2 (rest read) (read .read-two .ensures) (found .reason .given .1)) (c .refused .ensures _)
+    rw (faulty-two false LAW (rest read) (read .read-two .ensures) (found .reason .given .1)) (c .refused .ensures _)
 
 returns-3 : tie.Need-returns-3
 unfolding lawLine
@@ -49,13 +49,13 @@ returns-3 c =
     let in-limits = divisor .before .before in
     let order = in-limits .before .before in
     let line = good (order .before .before) in
-    let divisor-is = divisor .whole2 .ensures ∙ ap natAbs (line .held 1) in
+    let divisor-is = divisor .natural2 .ensures ∙ ap natAbs (line .held 1) in
     rw (line .gives, ← order-is order, ← divisor-is, inside in-limits) (next .read-terms .ensures)
 
 read-terms-requires : tie.Need-read-terms-requires
 read-terms-requires c κs =
     let in-limits = c .before .before .before in
-    (search needs, within 1 4 (in-limits .before .before .whole .result) (inside in-limits) .1)
+    (search needs, within 1 4 (in-limits .before .before .natural .result) (inside in-limits) .1)
 
 pub read-law-spec : {M : Type 1} → statement M
 read-law-spec =

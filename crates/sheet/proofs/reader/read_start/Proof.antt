@@ -2,12 +2,12 @@
 use borrow.Author.Needs.{needs}
 use mathlib.Core.Path.{ap, _∙_}
 use mathlib.Core.Bool.{false}
-use mathlib.Core.List.{List}
+use mathlib.Core.List.{List, [], _∷_}
 use Prim.Native.Nat.{ℕ}
 use lib.IntN.{natAbs}
-use Rattle.sheet.specs.Sheet.{START}
+use Rattle.lines.specs.Keywords.{START}
+use Rattle.lines.proofs.GoodLine.{GoodLine, good-two, faulty-two}
 use Rattle.sheet.specs.Reading.{startLine}
-use Rattle.sheet.proofs.Steps.{GoodLine, good-line, faulty-line}
 use Rattle.sheet.proofs.reader.read_start.Statement.{statement}
 use Rattle.sheet.proofs.reader.read_start.Tie as tie
 
@@ -15,15 +15,15 @@ abbrev rest : tie.After-read-two → List ℕ
 rest c = c .before .before .before .before .args .rest .now
 
 good : (c : tie.After-s)
-    → GoodLine false START 2 (rest (c .before .before)) (c .s .given .0 .0) (c .s .given .0 .1 .0) (c .s .given .0 .1 .1 .0)
-good c = good-line false START 2 (rest (c .before .before)) (c .before .before .read-two .ensures) (c .s .given .1)
+    → GoodLine false START (rest (c .before .before)) (c .s .given .0 .0 ∷ c .s .given .0 .1 .0 ∷ []) (c .s .given .0 .1 .1 .0)
+good c = good-two false START (rest (c .before .before)) (c .before .before .read-two .ensures) (c .s .given .1)
 
 returns : tie.Need-returns
 unfolding startLine
 returns c =
     let found = c .before .before in
     let read = found .before .before in
-    rw (faulty-line false START 2 (rest read) (read .read-two .ensures) (found .reason .given .1)) (c .refused .ensures _)
+    rw (faulty-two false START (rest read) (read .read-two .ensures) (found .reason .given .1)) (c .refused .ensures _)
 
 returns-2 : tie.Need-returns-2
 unfolding startLine
@@ -32,8 +32,8 @@ returns-2 c =
     let high = next .before .before .before in
     let low = high .before in
     let line = good (low .before .before) in
-    let low-is = low .whole .ensures ∙ ap natAbs (line .held 0) in
-    let high-is = high .whole2 .ensures ∙ ap natAbs (line .held 1) in
+    let low-is = low .natural .ensures ∙ ap natAbs (line .held 0) in
+    let high-is = high .natural2 .ensures ∙ ap natAbs (line .held 1) in
     rw (line .gives, ← low-is, ← high-is) (next .read-last .ensures)
 
 pub read-start-spec : {M : Type 1} → statement M

@@ -2,15 +2,16 @@
 use borrow.Author.Needs.{needs}
 use mathlib.Core.Path.{_≡_, _∙_}
 use mathlib.Core.Bool.{true}
-use mathlib.Core.List.{List}
+use mathlib.Core.List.{List, [], _∷_}
 use Prim.Native.Nat.{ℕ, _-_, _≤_}
 use native.Mathlib.Nat.{sub-zero}
 use native.Mathlib.Omega.{arith}
 use lib.IntN.{ℤ}
 use Rattle.model.specs.declared.Law.{Law}
-use Rattle.sheet.specs.Sheet.{TERM}
+use Rattle.lines.specs.Keywords.{TERM}
+use Rattle.lines.proofs.GoodLine.{GoodLine, good-two, faulty-two}
 use Rattle.sheet.specs.Reading.{noTerms, termLines}
-use Rattle.sheet.proofs.Steps.{GoodLine, good-line, faulty-line, term-good, term-faulty, terms-end}
+use Rattle.sheet.proofs.Steps.{term-good, term-faulty, terms-end}
 use Rattle.sheet.proofs.reader.read_terms.Statement.{statement}
 use Rattle.sheet.proofs.reader.read_terms.Tie as tie
 
@@ -33,8 +34,8 @@ abbrev left : tie.After-read-two Inv-loop μ-loop → List ℕ
 left c = c .before .before .before .loop .left .now
 
 good : (c : tie.After-y Inv-loop μ-loop)
-    → GoodLine true TERM 2 (left (c .before .before)) (c .y .given .0 .0) (c .y .given .0 .1 .0) (c .y .given .0 .1 .1 .0)
-good c = good-line true TERM 2 (left (c .before .before)) (c .before .before .read-two .ensures) (c .y .given .1)
+    → GoodLine true TERM (left (c .before .before)) (c .y .given .0 .0 ∷ c .y .given .0 .1 .0 ∷ []) (c .y .given .0 .1 .1 .0)
+good c = good-two true TERM (left (c .before .before)) (c .before .before .read-two .ensures) (c .y .given .1)
 
 returns : tie.Need-returns Inv-loop μ-loop
 returns c =
@@ -43,7 +44,7 @@ returns c =
     let at = read .before .before .before in
     let p = at .before .before .before .args in
     let law = lawOf (p .order) (p .divisor) (at .loop .a) (at .loop .b) in
-    let bad = faulty-line true TERM 2 (left read) (read .read-two .ensures) (found .reason .given .1) in
+    let bad = faulty-two true TERM (left read) (read .read-two .ensures) (found .reason .given .1) in
     let step = term-faulty (p .places) law (p .order) (at .loop .i) (left read) (omega arith) bad in
     rw (at .loop .inv .1 ∙ step) (c .refused .ensures _)
 

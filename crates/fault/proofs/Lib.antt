@@ -1,0 +1,3 @@
+-- Bottom up: what a file cites stands above it.
+pub mod First
+pub mod Located

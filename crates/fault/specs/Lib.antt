@@ -1,0 +1,3 @@
+-- The faulty word: the calls, and what is proved of their definition.
+pub mod Call
+pub mod First
