@@ -11,9 +11,20 @@ ghost use lib.Signed.{_≤ℤ_};
 ghost use mir.Syntax.{w64};
 ghost use mir.Val.{SFits};
 ghost use Rattle.outward.specs.Division.{ceilDiv};
-ghost use Rattle.enclosure.specs.Entry.{plus, minus, rounded, outOfRange, boundTooLarge};
+ghost use Rattle.enclosure.specs.Entry.{none, plus, minus, rounded, outOfRange, boundTooLarge};
 ghost use Rattle.model.specs.Limits.{beyond};
 ghost use Rattle.enclosure.specs.Run.{EntryFits};
+
+// The sum of no entries.
+pub fn none() -> Entry
+    ensures { λ r. ⌜ r ≡ none ⌝ }
+{
+    Entry {
+        low: 0,
+        high: 0,
+        bound: 0,
+    }
+}
 
 pub fn add(a: Entry, b: Entry) -> Entry
     requires { ⌜ EntryFits (plus a b) ⌝ }

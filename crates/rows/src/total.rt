@@ -3,6 +3,7 @@
 use super::layout::add_row;
 use enclosure::Entry;
 use enclosure::rule::divide_sums;
+use enclosure::rule::none;
 use enclosure::term::Factor;
 use model::Job;
 use model::Law;
@@ -50,11 +51,7 @@ fn sums_zero<'rows>(
         (lentRows (now (low .entry)) (now (high .entry)) (now (bound .entry)) (now (work .entry)))) x ⌝ }
 {
     let order = law.order as usize;
-    let mut sums = Entry {
-        low: 0,
-        high: 0,
-        bound: 0,
-    };
+    let mut sums = none();
     for i in 0..order {
         let factor = term_factor(a, b, x, i);
         sums = add_row(sums, factor, x, weights, low, high, bound, work, places, i);
@@ -86,11 +83,7 @@ fn first_entry(start: Start, row: usize) -> Entry
             bound: high - low,
         };
     }
-    Entry {
-        low: 0,
-        high: 0,
-        bound: 0,
-    }
+    none()
 }
 
 // The entry of row `row` at total `x`; `total` is the sum of the weights.
@@ -121,17 +114,12 @@ pub fn entry_at<'rows>(
         let sums = sums_zero(job.law, a, b, x, weights, low, high, bound, work, places);
         return divide_sums(sums, divisor_zero(job.law.divisor, total, x));
     }
-    let none = Entry {
-        low: 0,
-        high: 0,
-        bound: 0,
-    };
     let weight = Factor {
         constant: 1,
         slope: 0,
     };
     let sums = add_row(
-        none,
+        none(),
         weight,
         x,
         weights,

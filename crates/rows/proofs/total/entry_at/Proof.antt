@@ -57,24 +57,25 @@ before-below c = omega (arith, c .before .before .before .pre .0 .0)
 
 add-row-requires : tie.Need-add-row-requires
 add-row-requires c κs =
-    let ready = c .before .before .before .pre .1 .0 in
-    (reachable _ _ _ _ _ ready _ (before-below c), next-room _ _ _ _ (ready .basis) _ (before-below c))
+    let ready = c .before .before .before .before .pre .1 .0 in
+    let before = before-below (c .before) in
+    (reachable _ _ _ _ _ ready _ before, rw (c .none .ensures) (next-room _ _ _ _ (ready .basis) _ before))
 
 -- its sums are those of the definition
-sums-are : (c : tie.After-add-row) → let a = c .before .before .before .before .args in
+sums-are : (c : tie.After-add-row) → let a = c .before .before .before .before .before .args in
     c .add-row .result ≡ sumsNext (a .weights .now) (stored (a .places) (lentRows (a .low .now) (a .high .now) (a .bound .now) (a .work .now)))
     (a .row - 1) (a .x)
 sums-are c =
-    let a = c .before .before .before .before .args in
-    c .add-row .ensures ∙ next-is (a .weights .now) (a .x) _ (a .row - 1)
+    let a = c .before .before .before .before .before .args in
+    rw (c .before .none .ensures) at (c .add-row .ensures) ∙ next-is (a .weights .now) (a .x) _ (a .row - 1)
 
 divide-sums-requires-2 : tie.Need-divide-sums-requires-2
 divide-sums-requires-2 c κs =
-    let s = c .before .before .before .before in
+    let s = c .before .before .before .before .before in
     let a = s .args in
     let basis = s .pre .1 .0 .basis in
     let table = basis .table-limits in
-    let below : suc (a .row - 1) < a .job .law .order = omega (arith, s .pre .0 .0, c .before .if2 .left) in (
+    let below : suc (a .row - 1) < a .job .law .order = omega (arith, s .pre .0 .0, c .before .before .if2 .left) in (
       omega (arith, s .pre .0 .1, table .weights-least),
       omega (arith, s .pre .0 .1, table .weights-most),
       rw (sums-are c) (bound-fits (a .job .law) (a .weights .now) (a .x) _ basis (suc (a .row - 1)) _ below),
@@ -83,7 +84,7 @@ divide-sums-requires-2 c κs =
 returns-3 : tie.Need-returns-3
 returns-3 c =
     let d = c .before in
-    let t = d .before in
+    let t = d .before .before in
     let s = t .before .before .before in
     let a = s .args in
     c .divide-sums2 .ensures
@@ -101,6 +102,7 @@ entry-at-spec =
     divisor-zero-requires
     divide-sums-requires
     returns-2
+    (λ c κs. search needs)
     (λ c. search needs)
     add-row-requires
     divide-sums-requires-2

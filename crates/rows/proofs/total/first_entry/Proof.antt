@@ -34,7 +34,9 @@ returns c =
     ∙ ap (firstEntry (s .args .start)) (sym (c .before .before .if1 .taken))
 
 returns-2 : tie.Need-returns-2
-returns-2 c = ap (firstEntry (c .before .args .start)) (sym (suc-pred (c .before .args .row) (c .if1 .left)))
+returns-2 c =
+    let s = c .before .before in
+    c .none .ensures ∙ ap (firstEntry (s .args .start)) (sym (suc-pred (s .args .row) (c .before .if1 .left)))
 
 pub first-entry-spec : {M : Type 1} → statement M
-first-entry-spec = tie.close (tie.spec (λ c. search needs) (λ c. search needs) sub-t6 returns returns-2)
+first-entry-spec = tie.close (tie.spec (λ c. search needs) (λ c. search needs) sub-t6 returns (λ c κs. search needs) returns-2)

@@ -18,11 +18,11 @@ abbrev μ-loop : tie.MeasureT-loop
 μ-loop a b x weights low high bound work places order sums₀ i₀ sums i = order - i
 
 loop-holds : tie.Need-loop-holds Inv-loop μ-loop
-loop-holds c = (search needs, sym (accumulate-zero none plus _))
+loop-holds c = (search needs, c .none .ensures ∙ sym (accumulate-zero none plus _))
 
 term-factor-requires : tie.Need-term-factor-requires Inv-loop μ-loop
 term-factor-requires c κs =
-    let s = c .before .before .before in (
+    let s = c .before .before .before .before in (
       search needs,
       s .pre .0 .basis .total-most,
       rw (s .pre .1 .0) (s .pre .0 .basis .law-limits .a-small (c .before .loop .i) (search needs)),
@@ -31,7 +31,7 @@ term-factor-requires c κs =
 add-row-requires : tie.Need-add-row-requires Inv-loop μ-loop
 add-row-requires c κs =
     let loop = c .before .before in
-    let s = loop .before .before in
+    let s = loop .before .before .before in
     let i = loop .loop .i in (
       reachable _ _ _ _ _ (s .pre .0) i (search needs),
       rw (loop .loop .inv .1, c .term-factor .ensures, s .pre .1 .0, s .pre .1 .1) (term-room _ _ _ _ (s .pre .0 .basis) i (search needs)),
@@ -41,7 +41,7 @@ loop-again : tie.Need-loop-again Inv-loop μ-loop
 loop-again c =
     let d = c .before in
     let loop = d .before .before in
-    let a = loop .before .before .args in
+    let a = loop .before .before .before .args in
     let lent = lentRows (a .low .now) (a .high .now) (a .bound .now) (a .work .now) in (
       search needs,
       (rw (loop .loop .inv .1, d .term-factor .ensures) at (c .add-row .ensures))
@@ -50,7 +50,7 @@ loop-again c =
 
 returns : tie.Need-returns Inv-loop μ-loop
 returns c =
-    let s = c .before .before .before in
+    let s = c .before .before .before .before in
     let a = s .args in
     let lent = lentRows (a .low .now) (a .high .now) (a .bound .now) (a .work .now) in
     let all : c .before .loop .i ≡ a .law .order = search needs in
@@ -63,6 +63,7 @@ sums-zero-spec =
     (tie.spec
     Inv-loop
     μ-loop
+    (λ c κs. search needs)
     loop-holds
     term-factor-requires
     add-row-requires
