@@ -1,5 +1,6 @@
 // Reads a sheet from standard input, and writes the table of its curve, or its refusal, to standard output.
 
+use sheet::MOST_BYTES;
 ghost use mathlib.Core.Path.{_≡_};
 ghost use Prim.Native.Nat.{_≤_};
 ghost use lib.ListN.{length, drop};
@@ -57,7 +58,7 @@ fn write_text(sheet: &[u8], text: &[u8])
 }
 
 fn main() {
-    let mut sheet = [0u8; 16_385];
+    let mut sheet = [0u8; MOST_BYTES + 1];
     let count = read_input(&mut sheet);
     let mut out = [0u8; report::ROOM];
     let written = report::report(&sheet[..count], &mut out);

@@ -1,6 +1,7 @@
 // The first word of a line that is no number there.
 
 use super::Part;
+use lines::keywords::TERM;
 use text::Number;
 use text::lines::line_start;
 use text::lines::same;
@@ -27,7 +28,7 @@ fn has_signs(line: &[u8]) -> bool
     ensures { λ r. ⌜ r ≡ signsOn (now (line .entry)) ⌝ }
 {
     let space = until(line, b' ');
-    same(&line[..space], b"TERM")
+    same(&line[..space], &TERM)
 }
 
 // The first word after the keyword that is no number, as a part of the line; an empty part where each is one.

@@ -14,7 +14,7 @@ use Rattle.algebra.proofs.Slice.{part-to-end}
 use Rattle.algebra.proofs.Table.{same-list}
 use Rattle.text.specs.declared.NumberLine.{NumberLine}
 use Rattle.text.specs.declared.NumberLine.the-variants.{Value}
-use Rattle.text.specs.Bytes.{ascii, lineEnd}
+use Rattle.text.specs.Bytes.{lineEnd, space}
 use Rattle.text.specs.Lines.{before, after, has}
 use Rattle.text.specs.Leading.{numberLine, lineFound}
 use Rattle.text.proofs.Scan.{has-before, until-after}
@@ -29,19 +29,23 @@ pub record GoodWeight (s : List ℕ) (w next : ℕ) : Type 0 where
   pub gives : line false W 1 s ≡ numbers (pos w ∷ []) (drop next s)
   pub within : next ≤ length s
 
--- the line of `W`, a space and the text s
-after-keyword : (s : List ℕ) → has lineEnd s ≡ true → line false W 1 (ascii "W " ++ s) ≡ fields false 1 (before lineEnd s) (after lineEnd s)
-unfolding afterKeyword before after has
-after-keyword s e = line-fields false W 0 (ascii "W " ++ s) ∙ rw e
+-- the keyword and its space
+abbrev front : List ℕ
+front = W ++ (space ∷ [])
 
-module _ (s : List ℕ) (begins : sameList eqb (take 2 s) (ascii "W ") ≡ true) where
+-- the line of these and the text s
+after-keyword : (s : List ℕ) → has lineEnd s ≡ true → line false W 1 (front ++ s) ≡ fields false 1 (before lineEnd s) (after lineEnd s)
+unfolding afterKeyword before after has
+after-keyword s e = line-fields false W 0 (front ++ s) ∙ rw e
+
+module _ (s : List ℕ) (begins : sameList eqb (take 2 s) front ≡ true) where
   abbrev rest : List ℕ
   rest = drop 2 s
 
-  stands : s ≡ ascii "W " ++ rest
+  stands : s ≡ front ++ rest
   stands =
-      let keyword = same-list ℕ eqb eqb→eq (take 2 s) (ascii "W ") (rw begins tt) in
-      sym (take-append-drop 2 s) ∙ ap (λ (front : List ℕ). front ++ rest) keyword
+      let keyword = same-list ℕ eqb eqb→eq (take 2 s) front (rw begins tt) in
+      sym (take-append-drop 2 s) ∙ ap (λ (l : List ℕ). l ++ rest) keyword
 
   weight-line : {w next : ℕ} → TellsLine rest (pos w) next → GoodWeight s w (2 + next)
   weight-line {w} {next} l =

@@ -1,5 +1,6 @@
 // One line of a sheet, a keyword and its numbers, and why a sheet is refused.
 
+pub mod keywords;
 pub mod line;
 
 ghost use mathlib.Core.Path.{_≡_};

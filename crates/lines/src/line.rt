@@ -1,6 +1,7 @@
 // One line: a keyword, and one number or two.
 
 use super::Reason;
+use super::keywords::W;
 use text::Number;
 use text::NumberLine;
 use text::lines::same;
@@ -111,7 +112,7 @@ pub fn read_weight(rest: &[u8]) -> OneRead
             return OneRead::Number(w, 2 + next);
         }
     }
-    read_one(rest, b"W")
+    read_one(rest, &W)
 }
 
 // A line `KEYWORD n n`; `signs` says whether its numbers may have a sign.

@@ -18,7 +18,7 @@ use Rattle.model.specs.declared.Law.{Law}
 use Rattle.model.specs.declared.Start.{Start}
 use Rattle.model.specs.declared.Job.{Job}
 use Rattle.model.specs.Answer.{Answer, accepted, refused, isAccepted}
-use Rattle.model.specs.Limits.{outside}
+use Rattle.model.specs.Limits.{mostOrder, mostSeverities, mostLast, mostTotals, outside}
 use Rattle.model.proofs.Answer.{first-none, by-first}
 use Rattle.model.proofs.Tests.{within}
 use Rattle.text.specs.Bytes.{lineEnd}
@@ -30,13 +30,13 @@ use Rattle.lines.specs.Keywords.{LAW, TERM, START, LAST, SEVERITY, W}
 use Rattle.lines.specs.Line.{faulty, allNumbers, ofNumbers, ofWords, line, signed, natural}
 use Rattle.sheet.specs.Reading.{Reading, reads, refuses, on, noTerms, withTerm}
 use Rattle.model.specs.Job.{startOf, jobOf}
-use Rattle.sheet.specs.Reading.{weightLines, severityLine, lastLine, startLine, termLines, lawLine, reading}
+use Rattle.sheet.specs.Reading.{weightLines, severityLine, lastLine, startLine, termLines, lawLine, mostBytes, reading}
 use Rattle.enclosure.specs.declared.Entry.{Entry}
 use Rattle.enclosure.specs.Term.{entryOf, Small}
 use Rattle.rows.specs.Layout.{lentRows, workPlaces}
 use Rattle.compound.specs.Call.{tooShort, curveAnswer, curveLent}
 use Rattle.compound.proofs.Accepted.{limits, entry-small}
-use Rattle.report.specs.Report.{totalLine, totalLines, refusalLine, mostTotals, mostWeights, zeros, programRows}
+use Rattle.report.specs.Report.{totalLine, totalLines, refusalLine, zeros, programRows}
 use Rattle.report.specs.Report.{rowsText, curveText, readingText, reportText}
 use Rattle.report.specs.Fits.{WeightsFit, TotalsFit, room, TextFits, inputBytes, InputFits}
 
@@ -79,13 +79,13 @@ weights-by-sheet job ws zero n [] = tt
 weights-by-sheet job ws zero n (b ∷ s) = (omega arith, omega arith)
 weights-by-sheet job ws (suc due) n s = goes-on false W 1 s n _ λ zs rest. weights-by-sheet job (ws ++ (natural zs 0 ∷ [])) due (n + 1) rest
 
--- 25 refuses more than 500 weights, so that a row of 500 places has room for the others
-module _ (places : ℕ) (enough : 500 ≤ places) where
+-- 25 refuses more weights than there may be severities, so that a row of as many places has room for the others
+module _ (places : ℕ) (enough : mostSeverities ≤ places) where
   severity-by-sheet : (job : Job) (n : ℕ) (s : List ℕ) → BySheet (severityLine places job n s)
   unfolding severityLine
   severity-by-sheet job n s = goes-on false SEVERITY 1 s n _ λ zs rest.
-      unless (outside 1 500 (natural zs 0)) 25 n _ (omega arith, omega arith) λ inside.
-      rw (le-ltb places (natural zs 0) (omega (arith, within 1 500 (natural zs 0) inside .1)))
+      unless (outside 1 mostSeverities (natural zs 0)) 25 n _ (omega arith, omega arith) λ inside.
+      rw (le-ltb places (natural zs 0) (omega (arith, within 1 mostSeverities (natural zs 0) inside .1)))
       (weights-by-sheet job [] (natural zs 0) (n + 1) rest)
 
   last-by-sheet : (law : Law) (start : Start) (n : ℕ) (s : List ℕ) → BySheet (lastLine places law start n s)
@@ -105,16 +105,16 @@ module _ (places : ℕ) (enough : 500 ≤ places) where
   law-by-sheet : (s : List ℕ) → BySheet (lawLine places s)
   unfolding lawLine
   law-by-sheet s = goes-on false LAW 2 s 1 _ λ zs rest.
-      unless (outside 1 4 (natural zs 0)) 25 1 _ (omega arith, omega arith) λ _.
+      unless (outside 1 mostOrder (natural zs 0)) 25 1 _ (omega arith, omega arith) λ _.
       terms-by-sheet (noTerms (natural zs 0) (natural zs 1)) 0 (natural zs 0) rest
 
   pub reading-by-sheet : (s : List ℕ) → BySheet (reading places s)
   unfolding reading
-  reading-by-sheet s = unless (outside 1 16384 (length s)) 21 0 _ (omega arith, omega arith) λ _. law-by-sheet s
+  reading-by-sheet s = unless (outside 1 mostBytes (length s)) 21 0 _ (omega arith, omega arith) λ _. law-by-sheet s
 
 pub weights-fit : WeightsFit
 weights-fit s n e =
-    let sheets : ForSheet 27 = subst BySheet e (reading-by-sheet mostWeights (NL.le-refl mostWeights) s) in
+    let sheets : ForSheet 27 = subst BySheet e (reading-by-sheet mostSeverities (NL.le-refl mostSeverities) s) in
     omega arith
 
 -- ---- the totals
@@ -136,7 +136,7 @@ answers job weights P acceptance refusal =
     by-first P _ 6 _ _ (λ _. refusal 5 _ (λ e. omega arith)) λ _.
     by-first P _ 7 _ _ (λ _. refusal 6 _ (λ e. omega arith)) λ last.
     by-first P (tooShort (job .last + 1) programRows) 8 _ _ (λ t. absurd (false≢true (
-    sym (long-enough (job .last + 1) mostTotals (omega (arith, ltb-false 500 (job .last) last))) ∙ t
+    sym (long-enough (job .last + 1) mostTotals (omega (arith, ltb-false mostLast (job .last) last))) ∙ t
     ))) λ _.
     by-first P _ 9 _ _ (λ _. refusal 8 _ (λ e. omega arith)) λ _.
     by-first P _ 10 _ _ (λ _. refusal 9 _ (λ e. omega arith)) λ _. rw first-none acceptance
@@ -194,20 +194,20 @@ reading-short (refuses number n) = refusal-short (refused number n)
 
 pub text-fits : TextFits
 unfolding reportText
-text-fits s = reading-short (reading mostWeights s)
+text-fits s = reading-short (reading mostSeverities s)
 
 -- ---- the input
-too-long : (places : ℕ) (s : List ℕ) → 16384 < length s → reading places s ≡ refuses 21 0
+too-long : (places : ℕ) (s : List ℕ) → mostBytes < length s → reading places s ≡ refuses 21 0
 unfolding reading
-too-long places s h = rw (lt-ltb 16384 (length s) h, or-true)
+too-long places s h = rw (lt-ltb mostBytes (length s) h, or-true)
 
 pub input-fits : InputFits
 unfolding reportText
-input-fits s = ap readingText (by (ltb 16384 (length s)) refl)
+input-fits s = ap readingText (by (ltb mostBytes (length s)) refl)
   where
-    by : (t : Bool) → ltb 16384 (length s) ≡ t → reading mostWeights (take inputBytes s) ≡ reading mostWeights s
+    by : (t : Bool) → ltb mostBytes (length s) ≡ t → reading mostSeverities (take inputBytes s) ≡ reading mostSeverities s
     by true e =
-        let long = ltb-true 16384 (length s) e in
-        too-long mostWeights (take inputBytes s) (omega (arith, length-take-le inputBytes s (omega arith)))
-        ∙ sym (too-long mostWeights s long)
-    by false e = ap (reading mostWeights) (take-all inputBytes s (omega (arith, ltb-false 16384 (length s) e)))
+        let long = ltb-true mostBytes (length s) e in
+        too-long mostSeverities (take inputBytes s) (omega (arith, length-take-le inputBytes s (omega arith)))
+        ∙ sym (too-long mostSeverities s long)
+    by false e = ap (reading mostSeverities) (take-all inputBytes s (omega (arith, ltb-false mostBytes (length s) e)))

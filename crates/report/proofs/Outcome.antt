@@ -10,12 +10,13 @@ use borrow.Author.Tests.{ne-eqb}
 use lib.Dec.{eqb·suc-zero}
 use Rattle.model.specs.declared.Job.{Job}
 use Rattle.model.specs.Answer.{Answer, accepted, refused, isAccepted}
+use Rattle.model.specs.Limits.{mostSeverities}
 use Rattle.sheet.specs.Sheet.{Sheet}
 use Rattle.sheet.specs.Reading.{Reading, reads, refuses, reading}
 use Rattle.sheet.proofs.Taken.{takes-only-texts}
 use Rattle.sheet.proofs.Texts.{takes-all-texts}
 use Rattle.compound.specs.Call.{curveAnswer}
-use Rattle.report.specs.Report.{mostWeights, programRows, curveText, reportText}
+use Rattle.report.specs.Report.{programRows, curveText, reportText}
 use Rattle.report.specs.Report.{Table, Refusal, TableOrRefusal, AcceptedHasTable}
 use Rattle.report.proofs.Fits.{BySheet, reading-by-sheet, answers}
 
@@ -27,22 +28,22 @@ decided job weights = answers job weights Decided (inl refl) (λ i place other. 
 
 pub table-or-refusal : TableOrRefusal
 unfolding reportText curveText
-table-or-refusal s = by (reading mostWeights s) refl
+table-or-refusal s = by (reading mostSeverities s) refl
   where
-    by-curve : (sheet : Sheet) → reading mostWeights s ≡ reads sheet → Decided (curveAnswer (sheet .job) (sheet .weights) programRows)
+    by-curve : (sheet : Sheet) → reading mostSeverities s ≡ reads sheet → Decided (curveAnswer (sheet .job) (sheet .weights) programRows)
         → Table s ⊎ Refusal s
     by-curve sheet e (inl a) =
-        let taken = takes-only-texts mostWeights s sheet e in
+        let taken = takes-only-texts mostSeverities s sheet e in
         inl (record { sheet = sheet; writable = taken .0; bytes = taken .2; answer = a; text = rw (e, a) })
     by-curve sheet e (inr a) =
         inr (record { answer = curveAnswer (sheet .job) (sheet .weights) programRows; refused = a; text = rw (e, a) })
 
-    by : (r : Reading) → reading mostWeights s ≡ r → Table s ⊎ Refusal s
+    by : (r : Reading) → reading mostSeverities s ≡ r → Table s ⊎ Refusal s
     by (reads sheet) e = by-curve sheet e (decided (sheet .job) (sheet .weights))
     by (refuses number n) e =
-        let own = subst BySheet e (reading-by-sheet mostWeights (le-refl mostWeights) s) in
+        let own = subst BySheet e (reading-by-sheet mostSeverities (le-refl mostSeverities) s) in
         inr (record { answer = refused number n; refused = ne-eqb number 0 (λ z. omega arith); text = rw e })
 
 pub accepted-has-table : AcceptedHasTable
 unfolding reportText curveText
-accepted-has-table sheet writable e = rw (takes-all-texts mostWeights sheet writable (writable .count-most), e)
+accepted-has-table sheet writable e = rw (takes-all-texts mostSeverities sheet writable (writable .count-most), e)

@@ -9,6 +9,7 @@ use lib.IntN.{ℤ, pos}
 use lib.ListN.{getD, replicate}
 use Rattle.model.specs.declared.Job.{Job}
 use Rattle.model.specs.Answer.{Answer, accepted, refused, isAccepted}
+use Rattle.model.specs.Limits.{mostSeverities, mostTotals}
 use Rattle.text.specs.Bytes.{ascii}
 use Rattle.text.specs.Numbers.{decimal}
 use Rattle.text.specs.LineText.{lineText}
@@ -36,13 +37,7 @@ tableText totals low high bound = ascii "TOTAL LOW HIGH BOUND\n" ++ totalLines t
 abbrev pub refusalLine : Answer → List ℕ
 refusalLine answer = lineText (ascii "REFUSED") (pos (answer .number) ∷ pos (answer .place) ∷ [])
 
--- ---- the program's own rows, which it lends to the calls: 501 places are enough for every X, and 500 weights for every m
-abbrev pub mostTotals : ℕ
-mostTotals = 501
-
-abbrev pub mostWeights : ℕ
-mostWeights = 500
-
+-- ---- the program's own rows, which it lends to the calls, long enough for every X
 abbrev pub zeros : ℕ → List ℤ
 zeros places = replicate places (pos 0)
 
@@ -63,9 +58,9 @@ abbrev pub readingText : Reading → List ℕ
 readingText (reads sheet) = curveText (sheet .job) (sheet .weights)
 readingText (refuses number line) = refusalLine (refused number line)
 
--- what the program writes on the bytes of a sheet
+-- what the program writes on the bytes of a sheet; its row for weights is long enough for every m
 unfoldable pub reportText : List ℕ → List ℕ
-reportText s = readingText (reading mostWeights s)
+reportText s = readingText (reading mostSeverities s)
 
 -- ---- what is proved of it
 -- a table is written where the bytes are, one by one, the text of a sheet whose job is accepted; it shows what the call leaves in the rows

@@ -4,6 +4,9 @@ mod layout;
 
 use compound::CurveAnswer;
 use model::Job;
+use model::limits::MOST_SEVERITIES;
+use model::limits::MOST_TOTALS;
+use rows::layout::WORK_COLUMNS;
 use sheet::LineAnswer;
 ghost use mathlib.Core.Path.{_≡_};
 ghost use lib.ListN.{length};
@@ -11,13 +14,8 @@ ghost use Rattle.algebra.specs.Slice.{written};
 ghost use Rattle.output.specs.Output.{output, Puts};
 ghost use Rattle.report.specs.Report.{curveText, reportText};
 
-// The most weights that a sheet may have.
-const MOST_WEIGHTS: usize = 500;
-
-// The most totals that a job may have, and the places of the work row for as many.
-const MOST_TOTALS: usize = 501;
-
-const WORK_PLACES: usize = 9 * MOST_TOTALS;
+// The places of the work row for the most totals.
+const WORK_PLACES: usize = WORK_COLUMNS * MOST_TOTALS;
 
 // Room for every text: a line of a table has at most 40 bytes.
 pub const ROOM: usize = 20_480;
@@ -46,8 +44,8 @@ pub fn report(sheet: &[u8], out: &mut [u8; ROOM]) -> usize
     ensures count { λ r. ⌜ r ≡ length (reportText (now (sheet .entry))) ⌝ }
     ensures bytes { λ r. ⌜ now (out .exit) ≡ written (reportText (now (sheet .entry))) (now (out .entry)) ⌝ }
 {
-    let mut row = [0u64; MOST_WEIGHTS];
-    let read = sheet::reader::read_text(sheet, MOST_WEIGHTS, &mut row);
+    let mut row = [0u64; MOST_SEVERITIES];
+    let read = sheet::reader::read_text(sheet, MOST_SEVERITIES, &mut row);
     let answer = read.answer;
     match answer {
         LineAnswer::Accepted => {

@@ -17,7 +17,7 @@ use Rattle.algebra.specs.Table.{sameList}
 use Rattle.model.specs.declared.Law.{Law}
 use Rattle.model.specs.declared.Start.{Start}
 use Rattle.model.specs.declared.Job.{Job}
-use Rattle.model.specs.Limits.{outside}
+use Rattle.model.specs.Limits.{mostOrder, mostSeverities, outside}
 use Rattle.model.specs.Job.{startOf, jobOf}
 use Rattle.model.proofs.Tests.{within}
 use Rattle.text.specs.Bytes.{lineEnd}
@@ -30,7 +30,7 @@ use Rattle.lines.specs.Line.{Line, numbers, faulty, allNumbers, line, signed, n
 use Rattle.lines.proofs.LineParsed.{Parsed, LineFacts, line-facts, pair, one-natural, two-natural}
 use Rattle.sheet.specs.Sheet.{termsText, weightsText, sheetText}
 use Rattle.sheet.specs.Reading.{Reading, reads, refuses, on, noTerms, withTerm, sheetOf}
-use Rattle.sheet.specs.Reading.{weightLines, severityLine, lastLine, startLine, termLines, lawLine, reading}
+use Rattle.sheet.specs.Reading.{weightLines, severityLine, lastLine, startLine, termLines, lawLine, mostBytes, reading}
 use Rattle.sheet.specs.Call.{told}
 use Rattle.sheet.specs.Accepts.{Terms, Writable, TakesOnlyTexts, NamesFaultyLine}
 
@@ -38,7 +38,7 @@ use Rattle.sheet.specs.Accepts.{Terms, Writable, TakesOnlyTexts, NamesFa
 -- a law whose first i terms are read
 record LawFits (law : Law) (i : ℕ) : Type 0 where
   order-least : 1 ≤ law .order
-  order-most : law .order ≤ 4
+  order-most : law .order ≤ mostOrder
   divisor : AtMostTenDigits (pos (law .divisor))
   a : Terms i (law .a)
   b : Terms i (law .b)
@@ -49,7 +49,7 @@ record JobFits (job : Job) : Type 0 where
   high : AtMostTenDigits (pos (job .start .high))
   last : AtMostTenDigits (pos (job .last))
 
-writable : (job : Job) (ws : List ℕ) → JobFits job → 1 ≤ length ws → length ws ≤ 500 → ((i : ℕ) → AtMostTenDigits (pos (getD ws i 0)))
+writable : (job : Job) (ws : List ℕ) → JobFits job → 1 ≤ length ws → length ws ≤ mostSeverities → ((i : ℕ) → AtMostTenDigits (pos (getD ws i 0)))
     → Writable (sheetOf job ws)
 writable job ws fits least most small = record {
   order-least = fits .law .order-least;
@@ -88,10 +88,10 @@ zeros zero i = refl
 zeros (suc n) zero = refl
 zeros (suc n) (suc i) = zeros n i
 
-no-terms : Terms 0 (replicate 4 (pos 0))
-no-terms = record { four = refl; past = λ i _. zeros 4 i; small = λ i. rw (zeros 4 i) (lit< tt) }
+no-terms : Terms 0 (replicate mostOrder (pos 0))
+no-terms = record { four = refl; past = λ i _. zeros mostOrder i; small = λ i. rw (zeros mostOrder i) (lit< tt) }
 
-term-next : (i : ℕ) (terms : List ℤ) (z : ℤ) → i < 4 → AtMostTenDigits z → Terms i terms → Terms (i + 1) (set terms i z)
+term-next : (i : ℕ) (terms : List ℤ) (z : ℤ) → i < mostOrder → AtMostTenDigits z → Terms i terms → Terms (i + 1) (set terms i z)
 term-next i terms z h small t = record {
   four = length-set terms i z ∙ t .four;
   past = λ j l. getD-set-other terms i j z (pos 0) (omega arith) ∙ t .past j (omega arith);
@@ -102,7 +102,7 @@ term-next i terms z h small t = record {
     by j (yes e) = rw (e, getD-set-same terms i z (pos 0) (omega (arith, t .four))) small
     by j (no d) = rw (getD-set-other terms i j z (pos 0) d) (t .small j)
 
-module _ (law : Law) (i : ℕ) (x y : ℤ) (fits : LawFits law i) (h : i < 4) where
+module _ (law : Law) (i : ℕ) (x y : ℤ) (fits : LawFits law i) (h : i < mostOrder) where
   law-next : AtMostTenDigits x → AtMostTenDigits y → LawFits (withTerm law i x y) (i + 1)
   law-next x-small y-small = record {
     order-least = fits .order-least;
@@ -187,7 +187,7 @@ module _ (places : ℕ) (all : List ℕ) where
   unless false number n r other right = right refl
 
   -- ---- the lines, from the last kind to the first
-  module _ (job : Job) (m : ℕ) (fits : JobFits job) (least : 1 ≤ m) (most : m ≤ 500) (room : m ≤ places) where
+  module _ (job : Job) (m : ℕ) (fits : JobFits job) (least : 1 ≤ m) (most : m ≤ mostSeverities) (room : m ≤ places) where
     weights : (ws : List ℕ) (due n : ℕ) (s : List ℕ) → length ws + due ≡ m → ((i : ℕ) → AtMostTenDigits (pos (getD ws i 0)))
         → Stands n (tableText job m ws) s → Right (weightLines job ws due n s)
     unfolding weightLines
@@ -205,9 +205,9 @@ module _ (places : ℕ) (all : List ℕ) where
   unfolding severityLine weightsText
   severity job n s fits here = goes-on false SEVERITY 1 _ refl here λ zs rest p there.
       let m = natural zs 0 in
-      unless (outside 1 500 m) 25 n _ (λ e. omega arith) λ inside.
+      unless (outside 1 mostSeverities m) 25 n _ (λ e. omega arith) λ inside.
       unless (ltb places m) 27 n _ (λ e. omega arith) λ room.
-      let limits = within 1 500 m inside in
+      let limits = within 1 mostSeverities m inside in
       weights job m fits (limits .0) (limits .1) (ltb-false places m room) [] m (n + 1) rest (omega arith) (λ i. lit< tt)
       (rw append-nil (rw (one-natural p) at there))
 
@@ -234,7 +234,7 @@ module _ (places : ℕ) (all : List ℕ) where
   terms law i (suc due) s e fits here = goes-on true TERM 2 _ refl here λ zs rest p there.
       let x = signed zs 0 in
       let y = signed zs 1 in
-      let h : i < 4 = omega (arith, fits .order-most) in
+      let h : i < mostOrder = omega (arith, fits .order-most) in
       let text = ap (λ (l : List ℤ). lawText law i ++ lineText TERM l) (pair zs (p .counted)) ∙ law-text law i x y fits h in
       terms (withTerm law i x y) (i + 1) due rest (omega arith) (law-next law i x y fits h (p .small 0) (p .small 1))
       (subst₂ (λ n done. Stands n done rest) (omega arith) text there)
@@ -243,25 +243,25 @@ module _ (places : ℕ) (all : List ℕ) where
   unfolding lawLine termsText
   law s here = goes-on false LAW 2 _ refl here λ zs rest p there.
       let k = natural zs 0 in
-      unless (outside 1 4 k) 25 1 _ (λ e. omega arith) λ inside.
-      let limits = within 1 4 k inside in
+      unless (outside 1 mostOrder k) 25 1 _ (λ e. omega arith) λ inside.
+      let limits = within 1 mostOrder k inside in
       terms (noTerms k (natural zs 1)) 0 k rest (omega arith)
       (record { order-least = limits .0; order-most = limits .1; divisor = p .small 1; a = no-terms; b = no-terms })
       (rw append-nil (rw (two-natural p) at there))
 
   right : Right (reading places all)
   unfolding reading afterLines
-  right = unless (outside 1 16384 (length all)) 21 0 _ (λ e. omega arith) λ _.
+  right = unless (outside 1 mostBytes (length all)) 21 0 _ (λ e. omega arith) λ _.
       law all (record { from-one = omega arith; split = refl; reached = refl })
 
 pub takes-only-texts : TakesOnlyTexts
 takes-only-texts places s sheet e = subst (Right places s) e (right places s)
 
--- so what the reader tells has at most 500 weights, and at most as many as there are places; a refusal has none
-pub counted : (places : ℕ) (s : List ℕ) → (told (reading places s) .count ≤ 500) × (told (reading places s) .count ≤ places)
+-- so what the reader tells has no more weights than there are severities, and at most as many as there are places; a refusal has none
+pub counted : (places : ℕ) (s : List ℕ) → (told (reading places s) .count ≤ mostSeverities) × (told (reading places s) .count ≤ places)
 counted places s = by (reading places s) refl
   where
-    by : (r : Reading) → reading places s ≡ r → (told r .count ≤ 500) × (told r .count ≤ places)
+    by : (r : Reading) → reading places s ≡ r → (told r .count ≤ mostSeverities) × (told r .count ≤ places)
     by (reads sheet) e = let taken = takes-only-texts places s sheet e in (taken .0 .count-most, taken .1)
     by (refuses number line) e = (zero-le, zero-le)
 

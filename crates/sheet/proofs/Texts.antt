@@ -11,6 +11,7 @@ use lib.IntN.{ℤ, pos}
 use lib.ListN.{length, getD, set, replicate, length-append}
 use Rattle.model.specs.declared.Law.{Law}
 use Rattle.model.specs.declared.Job.{Job}
+use Rattle.model.specs.Limits.{mostOrder, mostSeverities}
 use Rattle.model.proofs.Tests.{inside}
 use Rattle.text.specs.Lines.{has}
 use Rattle.text.specs.Numbers.{AtMostTenDigits}
@@ -18,7 +19,8 @@ use Rattle.text.specs.LineText.{lineText}
 use Rattle.lines.specs.Keywords.{LAW, TERM, START, LAST, SEVERITY, W}
 use Rattle.lines.proofs.LinePrinted.{Held, one, two, two-signed, line-printed, line-length}
 use Rattle.sheet.specs.Sheet.{Sheet, termsText, weightsText, sheetText}
-use Rattle.sheet.specs.Reading.{reads, noTerms, sheetOf, weightLines, severityLine, lastLine, startLine, termLines, lawLine, reading}
+use Rattle.sheet.specs.Reading.{reads, noTerms, sheetOf}
+use Rattle.sheet.specs.Reading.{weightLines, severityLine, lastLine, startLine, termLines, lawLine, mostBytes, reading}
 use Rattle.sheet.specs.Accepts.{Terms, Writable, TakesAllTexts, TextsFit}
 
 -- ---- what is known of a law as its terms are read
@@ -132,14 +134,14 @@ takes-all-texts places sheet can room =
     let law = sheet .job .law in
     let count = length (sheet .weights) in
     rw (
-      inside 1 16384 (length (sheetText sheet)) (some-text sheet) (texts-fit sheet can),
+      inside 1 mostBytes (length (sheetText sheet)) (some-text sheet) (texts-fit sheet can),
       line-printed LAW (law-held sheet can) refl refl,
-      inside 1 4 (law .order) (can .order-least) (can .order-most),
+      inside 1 mostOrder (law .order) (can .order-least) (can .order-most),
       terms-read law (can .a) (can .b),
       line-printed START (start-held sheet can) refl refl,
       line-printed LAST (last-held sheet can) refl refl,
       line-printed SEVERITY (count-held sheet can) refl refl,
-      inside 1 500 count (can .count-least) (can .count-most),
+      inside 1 mostSeverities count (can .count-least) (can .count-most),
       le-ltb places count room,
     )
     (weights-read (sheet .job) [] (sheet .weights) _ (can .weights))

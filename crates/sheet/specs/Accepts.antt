@@ -6,22 +6,23 @@ use mathlib.Core.Option.{none}
 use Prim.Native.Nat.{ℕ, _≤_}
 use lib.IntN.{ℤ, pos}
 use lib.ListN.{length, getD}
+use Rattle.model.specs.Limits.{mostOrder, mostSeverities}
 use Rattle.text.specs.Lines.{lineAt}
 use Rattle.text.specs.Numbers.{AtMostTenDigits}
 use Rattle.lines.specs.Line.{allNumbers, numberWords, signsOn}
 use Rattle.sheet.specs.Sheet.{Sheet, sheetText}
-use Rattle.sheet.specs.Reading.{reads, refuses, reading}
+use Rattle.sheet.specs.Reading.{reads, refuses, mostBytes, reading}
 
 -- the four terms of a law, at most 10 digits each; those past the order are zero
 pub record Terms (order : ℕ) (terms : List ℤ) : Type 0 where
-  pub four : length terms ≡ 4
+  pub four : length terms ≡ mostOrder
   pub past : (i : ℕ) → order ≤ i → getD terms i (pos 0) ≡ pos 0
   pub small : (i : ℕ) → AtMostTenDigits (getD terms i (pos 0))
 
 -- the numbers that a sheet can hold: order 1 to 4, 1 to 500 weights, and at most 10 digits each
 pub record Writable (sheet : Sheet) : Type 0 where
   pub order-least : 1 ≤ sheet .job .law .order
-  pub order-most : sheet .job .law .order ≤ 4
+  pub order-most : sheet .job .law .order ≤ mostOrder
   pub divisor : AtMostTenDigits (pos (sheet .job .law .divisor))
   pub a : Terms (sheet .job .law .order) (sheet .job .law .a)
   pub b : Terms (sheet .job .law .order) (sheet .job .law .b)
@@ -29,7 +30,7 @@ pub record Writable (sheet : Sheet) : Type 0 where
   pub high : AtMostTenDigits (pos (sheet .job .start .high))
   pub last : AtMostTenDigits (pos (sheet .job .last))
   pub count-least : 1 ≤ length (sheet .weights)
-  pub count-most : length (sheet .weights) ≤ 500
+  pub count-most : length (sheet .weights) ≤ mostSeverities
   pub weights : (i : ℕ) → AtMostTenDigits (pos (getD (sheet .weights) i 0))
 
 -- a sheet that is taken is, byte for byte, the text of the numbers read: nothing is dropped, and no two sheets are read as one
@@ -44,7 +45,7 @@ TakesAllTexts = (places : ℕ) (sheet : Sheet) → Writable sheet → length (sh
 
 -- none of them is too long, so that 21 refuses no writable sheet
 abbrev pub TextsFit : Type 0
-TextsFit = (sheet : Sheet) → Writable sheet → length (sheetText sheet) ≤ 16384
+TextsFit = (sheet : Sheet) → Writable sheet → length (sheetText sheet) ≤ mostBytes
 
 -- with 24 the line that is named has, after its keyword, a word that is no number there
 abbrev pub NamesFaultyLine : Type 0

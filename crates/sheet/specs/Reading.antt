@@ -73,6 +73,9 @@ lawLine places s =
     (λ zs rest. cond (outside 1 mostOrder (natural zs 0)) (refuses 25 1)
     (termLines places (noTerms (natural zs 0) (natural zs 1)) 0 (natural zs 0) rest))
 
--- the whole sheet
+-- ---- the whole sheet
+abbrev pub mostBytes : ℕ
+mostBytes = 16384
+
 unfoldable pub reading : ℕ → List ℕ → Reading
-reading places s = cond (outside 1 16384 (length s)) (refuses 21 0) (lawLine places s)
+reading places s = cond (outside 1 mostBytes (length s)) (refuses 21 0) (lawLine places s)

@@ -4,6 +4,7 @@ pub mod reader;
 
 use lines::Reason;
 use model::Job;
+use model::limits::MOST_SEVERITIES;
 use reader::read_text;
 ghost use mathlib.Core.Path.{_≡_};
 ghost use Prim.Native.Nat.{_≤_};
@@ -12,8 +13,8 @@ ghost use Rattle.algebra.specs.Slice.{written};
 ghost use Rattle.sheet.specs.Reading.{reading};
 ghost use Rattle.sheet.specs.Call.{paper, told, rowOnReturn};
 
-// The most weights that a sheet may have, and so the places of the reader's own row.
-const MOST_WEIGHTS: usize = 500;
+// The most bytes that a sheet may have.
+pub const MOST_BYTES: usize = 16_384;
 
 pub enum LineAnswer {
     Accepted,
@@ -43,7 +44,7 @@ pub fn read_sheet(sheet: &[u8], row: &mut [u64]) -> SheetRead
     ensures answer { λ r. ⌜ paper r (now (row .exit)) ≡ told (reading (length (now (row .entry))) (now (sheet .entry))) ⌝ }
     ensures row { λ r. ⌜ now (row .exit) ≡ rowOnReturn (reading (length (now (row .entry))) (now (sheet .entry))) (now (row .entry)) ⌝ }
 {
-    let mut weights = [0u64; MOST_WEIGHTS];
+    let mut weights = [0u64; MOST_SEVERITIES];
     let read = read_text(sheet, row.len(), &mut weights);
     // after a refusal it is 0, and nothing is put
     let count = read.count;

@@ -1,11 +1,15 @@
 // The sheet, line by line: each function reads the line due and goes on with the next. The weights are written as they are read, before the
-// last line is known to be good, so the row may hold anything after a refusal. With an order of at most 4 the first `W` line is at most
-// line 9.
+// last line is known to be good, so the row may hold anything after a refusal. Line numbers are bounded by the order, which has a limit.
 
 use super::LineAnswer;
-use super::MOST_WEIGHTS;
+use super::MOST_BYTES;
 use super::SheetRead;
 use lines::Reason;
+use lines::keywords::LAST;
+use lines::keywords::LAW;
+use lines::keywords::SEVERITY;
+use lines::keywords::START;
+use lines::keywords::TERM;
 use lines::line::OneRead;
 use lines::line::TwoRead;
 use lines::line::natural;
@@ -15,19 +19,17 @@ use lines::line::read_weight;
 use model::Job;
 use model::Law;
 use model::Start;
+use model::limits::MOST_ORDER;
+use model::limits::MOST_SEVERITIES;
 use model::limits::is_outside;
 ghost use mathlib.Core.Path.{_≡_};
 ghost use mathlib.Core.List.{List, []};
-ghost use Prim.Native.Nat.{ℕ, _≤_};
+ghost use Prim.Native.Nat.{ℕ, _+_, _≤_};
 ghost use lib.ListN.{length};
+ghost use Rattle.model.specs.Limits.{mostOrder, mostSeverities};
 ghost use Rattle.lines.specs.Reason.{numberOf};
 ghost use Rattle.sheet.specs.Reading.{refuses, noTerms, weightLines, severityLine, lastLine, startLine, termLines, lawLine, reading};
 ghost use Rattle.sheet.specs.Call.{paper, told};
-
-// The most bytes that a sheet may have.
-const MOST_BYTES: u64 = 16384;
-
-const MOST_ORDER: u64 = 4;
 
 // A refusal: its other numbers are 0.
 fn refused(reason: Reason, line: usize) -> SheetRead
@@ -36,8 +38,8 @@ fn refused(reason: Reason, line: usize) -> SheetRead
     let law = Law {
         order: 0,
         divisor: 0,
-        a: [0i64; 4],
-        b: [0i64; 4],
+        a: [0i64; MOST_ORDER as usize],
+        b: [0i64; MOST_ORDER as usize],
     };
     let start = Start { low: 0, high: 0 };
     let job = Job {
@@ -54,7 +56,7 @@ fn refused(reason: Reason, line: usize) -> SheetRead
 
 // The `count` lines `W w`, the first of them line `line`, with nothing after them.
 fn read_weights(rest: &[u8], count: usize, line: usize, job: Job, weights: &mut [u64]) -> SheetRead
-    requires { ⌜ (count ≤ length (now weights)) × (count ≤ 500) × (line ≤ 9) ⌝ }
+    requires { ⌜ (count ≤ length (now weights)) × (count ≤ mostSeverities) × (line ≤ mostOrder + 5) ⌝ }
     ensures { λ r. ⌜ paper r (now (weights .exit)) ≡ told (weightLines job [] count line (now (rest .entry))) ⌝ }
 {
     let mut left = rest;
@@ -84,13 +86,13 @@ fn read_severity(
     job: Job,
     weights: &mut [u64],
 ) -> SheetRead
-    requires { ⌜ (500 ≤ length (now weights)) × (line ≤ 8) ⌝ }
+    requires { ⌜ (mostSeverities ≤ length (now weights)) × (line ≤ mostOrder + 4) ⌝ }
     ensures { λ r. ⌜ paper r (now (weights .exit)) ≡ told (severityLine places job line (now (rest .entry))) ⌝ }
 {
-    match read_one(rest, b"SEVERITY") {
+    match read_one(rest, &SEVERITY) {
         OneRead::Refused(reason) => refused(reason, line),
         OneRead::Number(count, next) => {
-            if is_outside(1, MOST_WEIGHTS as u64, count) {
+            if is_outside(1, MOST_SEVERITIES as u64, count) {
                 return refused(Reason::Limit, line);
             }
             if places < count as usize {
@@ -109,10 +111,10 @@ fn read_last(
     start: Start,
     weights: &mut [u64],
 ) -> SheetRead
-    requires { ⌜ (500 ≤ length (now weights)) × (line ≤ 7) ⌝ }
+    requires { ⌜ (mostSeverities ≤ length (now weights)) × (line ≤ mostOrder + 3) ⌝ }
     ensures { λ r. ⌜ paper r (now (weights .exit)) ≡ told (lastLine places law start line (now (rest .entry))) ⌝ }
 {
-    match read_one(rest, b"LAST") {
+    match read_one(rest, &LAST) {
         OneRead::Refused(reason) => refused(reason, line),
         OneRead::Number(last, next) => {
             let job = Job { law, start, last };
@@ -122,10 +124,10 @@ fn read_last(
 }
 
 fn read_start(rest: &[u8], places: usize, line: usize, law: Law, weights: &mut [u64]) -> SheetRead
-    requires { ⌜ (500 ≤ length (now weights)) × (line ≤ 6) ⌝ }
+    requires { ⌜ (mostSeverities ≤ length (now weights)) × (line ≤ mostOrder + 2) ⌝ }
     ensures { λ r. ⌜ paper r (now (weights .exit)) ≡ told (startLine places law line (now (rest .entry))) ⌝ }
 {
-    match read_two(rest, b"START", false) {
+    match read_two(rest, &START, false) {
         TwoRead::Refused(reason) => refused(reason, line),
         TwoRead::Numbers(s, t, next) => {
             let start = Start {
@@ -145,15 +147,15 @@ fn read_terms(
     divisor: u64,
     weights: &mut [u64],
 ) -> SheetRead
-    requires { ⌜ (500 ≤ length (now weights)) × (order ≤ 4) ⌝ }
+    requires { ⌜ (mostSeverities ≤ length (now weights)) × (order ≤ mostOrder) ⌝ }
     ensures { λ r. ⌜ paper r (now (weights .exit)) ≡ told (termLines places (noTerms order divisor) 0 order (now (rest .entry))) ⌝ }
 {
-    let mut a = [0i64; 4];
-    let mut b = [0i64; 4];
+    let mut a = [0i64; MOST_ORDER as usize];
+    let mut b = [0i64; MOST_ORDER as usize];
     let mut left = rest;
     let count = order as usize;
     for i in 0..count {
-        match read_two(left, b"TERM", true) {
+        match read_two(left, &TERM, true) {
             TwoRead::Refused(reason) => return refused(reason, i + 2),
             TwoRead::Numbers(y, z, next) => {
                 a[i] = y;
@@ -172,10 +174,10 @@ fn read_terms(
 }
 
 fn read_law(rest: &[u8], places: usize, weights: &mut [u64]) -> SheetRead
-    requires { ⌜ 500 ≤ length (now weights) ⌝ }
+    requires { ⌜ mostSeverities ≤ length (now weights) ⌝ }
     ensures { λ r. ⌜ paper r (now (weights .exit)) ≡ told (lawLine places (now (rest .entry))) ⌝ }
 {
-    match read_two(rest, b"LAW", false) {
+    match read_two(rest, &LAW, false) {
         TwoRead::Refused(reason) => refused(reason, 1),
         TwoRead::Numbers(k, d, next) => {
             let order = natural(k);
@@ -189,10 +191,10 @@ fn read_law(rest: &[u8], places: usize, weights: &mut [u64]) -> SheetRead
 
 // What a sheet says to a row of `places` places; `weights` may hold anything after a refusal.
 pub fn read_text(sheet: &[u8], places: usize, weights: &mut [u64]) -> SheetRead
-    requires { ⌜ 500 ≤ length (now weights) ⌝ }
+    requires { ⌜ mostSeverities ≤ length (now weights) ⌝ }
     ensures { λ r. ⌜ paper r (now (weights .exit)) ≡ told (reading places (now (sheet .entry))) ⌝ }
 {
-    if is_outside(1, MOST_BYTES, sheet.len() as u64) {
+    if is_outside(1, MOST_BYTES as u64, sheet.len() as u64) {
         return refused(Reason::Size, 0);
     }
     read_law(sheet, places, weights)

@@ -8,6 +8,7 @@ use Prim.Native.Nat.{ℕ, _≤_}
 use lib.Dec.{eqb}
 use Rattle.model.specs.declared.Job.{Job}
 use Rattle.model.specs.Answer.{accepted, refused}
+use Rattle.model.specs.Limits.{mostLast}
 use Rattle.compound.specs.declared.CurveAnswer.{CurveAnswer}
 use Rattle.rows.specs.Layout.{Lent}
 use Rattle.compound.specs.Call.{numberOf, paper, curveAnswer, curveLent}
@@ -44,7 +45,7 @@ module _ (c : tie.After-enum-told) where
   accepting : accepted ≡ curveAnswer (job call) (weights call) programRows
   accepting = answered call _ (c .enum-told .given .1)
 
-  few : job call .last ≤ 500
+  few : job call .last ≤ mostLast
   few = limits (job call) (weights call) programRows (sym accepting) .last-most
 
 returns : tie.Need-returns

@@ -9,6 +9,7 @@ use lib.ListN.{length}
 use lib.Seq.{length-take-le}
 use Rattle.algebra.specs.Slice.{written}
 use Rattle.model.specs.Answer.{Answer, accepted, refused}
+use Rattle.model.specs.Limits.{mostSeverities}
 use Rattle.output.specs.Output.{Output, output, Puts}
 use Rattle.output.proofs.Put.{put-whole}
 use Rattle.lines.specs.declared.Reason.{Reason}
@@ -18,7 +19,7 @@ use Rattle.sheet.specs.declared.LineAnswer.{LineAnswer}
 use Rattle.sheet.specs.Reading.{Reading, reads, refuses, reading}
 use Rattle.sheet.specs.Call.{Told, answerOf, paper, told}
 use Rattle.sheet.proofs.Taken.{counted}
-use Rattle.report.specs.Report.{mostWeights, refusalLine, curveText, readingText, reportText}
+use Rattle.report.specs.Report.{refusalLine, curveText, readingText, reportText}
 use Rattle.report.specs.Fits.{room}
 use Rattle.report.proofs.Fits.{BySheet, reading-by-sheet, text-fits}
 use Rattle.report.proofs.report.Statement.{statement}
@@ -57,18 +58,18 @@ module _ (c : tie.After-read-text) where
   sheet = c .before .before .before .args .sheet .now
 
   abbrev reader : Reading
-  reader = reading mostWeights sheet
+  reader = reading mostSeverities sheet
 
   tells : paper (c .read-text .result) (c .read-text .last .1 .1 .0) ≡ told reader
   tells = c .read-text .ensures
 
-  few : c .read-text .result .count ≤ 500
-  few = subst (λ (n : ℕ). n ≤ 500) (sym (ap (λ (t : Told). t .count) tells)) (counted mostWeights sheet .0)
+  few : c .read-text .result .count ≤ mostSeverities
+  few = subst (λ (n : ℕ). n ≤ mostSeverities) (sym (ap (λ (t : Told). t .count) tells)) (counted mostSeverities sheet .0)
 
   answered : (answer : LineAnswer) → c .read-text .result .answer ≡ answer → answerOf answer ≡ told reader .answer
   answered answer e = ap answerOf (sym e) ∙ ap (λ (t : Told). t .answer) tells
 
--- the weights have places in the row, which keeps its 500
+-- the weights have places in the row, which keeps its own
 fits : (c : tie.After-row2) → c .before .read-text .result .count ≤ length (c .before .read-text .last .1 .1 .0)
 fits c = omega (arith, few (c .before))
 
@@ -77,7 +78,7 @@ unfolding reportText
 returns c =
     let told = c .before .before .before .before in
     let read = told .before .before .before in
-    let text = accepted-text (reader read) _ (reading-by-sheet mostWeights (le-refl mostWeights) (sheet read)) (tells read)
+    let text = accepted-text (reader read) _ (reading-by-sheet mostSeverities (le-refl mostSeverities) (sheet read)) (tells read)
     (ap answerOf (sym (told .enum-told .given .1))) in
     in-buffer (sheet read) _ _ _ (search needs) (rw (sym text) at (c .put-curve .ensures))
 

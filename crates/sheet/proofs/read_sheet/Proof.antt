@@ -1,5 +1,5 @@
 -- What the reader tells of its own row is what it tells of the lent one, once the weights are put there. They fit in both, since an
--- accepted sheet has at most 500 weights and at most as many as there are places.
+-- accepted sheet has at most as many weights as there may be severities, and as there are places.
 use borrow.Author.Needs.{needs}
 use mathlib.Core.Path.{_≡_, refl, sym, ap, subst, _∙_}
 use mathlib.Core.List.{List}
@@ -8,6 +8,7 @@ use native.Mathlib.Omega.{arith}
 use lib.ListN.{length, take, drop}
 use lib.Seq.{length-take-le, take-append-seam}
 use Rattle.algebra.specs.Slice.{written}
+use Rattle.model.specs.Limits.{mostSeverities}
 use Rattle.sheet.specs.declared.SheetRead.{SheetRead}
 use Rattle.sheet.specs.Reading.{Reading, reads, refuses, reading}
 use Rattle.sheet.specs.Call.{Told, answerOf, paper, told, rowOnReturn}
@@ -43,11 +44,11 @@ module _ (c : tie.After-read-text) where
   reader = reading (length row) sheet
 
   -- the weights have places in both rows
-  fits : (c .read-text .result .count ≤ 500) × (c .read-text .result .count ≤ length row)
-  fits = subst (λ (n : ℕ). (n ≤ 500) × (n ≤ length row)) (sym (ap (λ (t : Told). t .count) (c .read-text .ensures)))
+  fits : (c .read-text .result .count ≤ mostSeverities) × (c .read-text .result .count ≤ length row)
+  fits = subst (λ (n : ℕ). (n ≤ mostSeverities) × (n ≤ length row)) (sym (ap (λ (t : Told). t .count) (c .read-text .ensures)))
       (counted (length row) sheet)
 
--- the reader's own row keeps its 500 places
+-- the reader's own row keeps its places
 own-room : (c : tie.After-weights2) → c .before .read-text .result .count ≤ length (c .before .read-text .last .1 .1 .0)
 own-room c = omega (arith, fits (c .before))
 

@@ -5,7 +5,7 @@ use mathlib.Core.Bool.{false}
 use mathlib.Core.List.{List, [], _∷_}
 use Prim.Native.Nat.{ℕ}
 use lib.IntN.{natAbs}
-use Rattle.model.specs.Limits.{outside}
+use Rattle.model.specs.Limits.{mostOrder, outside}
 use Rattle.model.proofs.Tests.{within}
 use Rattle.lines.specs.Keywords.{LAW}
 use Rattle.lines.proofs.GoodLine.{GoodLine, good-two, faulty-two}
@@ -23,7 +23,7 @@ good c = good-two false LAW (rest (c .before .before)) (c .before .before .read-
 order-is : (c : tie.After-natural) → c .natural .result ≡ natAbs (c .before .before .k .given .0 .0)
 order-is c = c .natural .ensures ∙ ap natAbs (good (c .before .before) .held 0)
 
-inside : (c : tie.Else1) → outside 1 4 (c .before .before .natural .result) ≡ false
+inside : (c : tie.Else1) → outside 1 mostOrder (c .before .before .natural .result) ≡ false
 inside c = sym (c .before .is-outside .ensures) ∙ c .if1 .left
 
 returns : tie.Need-returns
@@ -55,7 +55,7 @@ returns-3 c =
 read-terms-requires : tie.Need-read-terms-requires
 read-terms-requires c κs =
     let in-limits = c .before .before .before in
-    (search needs, within 1 4 (in-limits .before .before .natural .result) (inside in-limits) .1)
+    (search needs, within 1 mostOrder (in-limits .before .before .natural .result) (inside in-limits) .1)
 
 pub read-law-spec : {M : Type 1} → statement M
 read-law-spec =

@@ -7,7 +7,7 @@ use Prim.Native.Nat.{ℕ}
 use native.Mathlib.Omega.{arith}
 use borrow.Author.Tests.{lt-ltb, le-ltb}
 use lib.IntN.{pos}
-use Rattle.model.specs.Limits.{outside}
+use Rattle.model.specs.Limits.{mostSeverities, outside}
 use Rattle.model.proofs.Tests.{within}
 use Rattle.lines.specs.Keywords.{SEVERITY}
 use Rattle.lines.proofs.GoodLine.{GoodLine, good-one, faulty-one}
@@ -22,7 +22,7 @@ good : (c : tie.After-count)
     → GoodLine false SEVERITY (rest (c .before .before)) (pos (c .count .given .0 .0) ∷ []) (c .count .given .0 .1 .0)
 good c = good-one SEVERITY (rest (c .before .before)) (c .before .before .read-one .ensures) (c .count .given .1)
 
-inside : (c : tie.Else1) → outside 1 500 (c .before .before .before .count .given .0 .0) ≡ false
+inside : (c : tie.Else1) → outside 1 mostSeverities (c .before .before .before .count .given .0 .0) ≡ false
 inside c = sym (c .before .is-outside .ensures) ∙ c .if1 .left
 
 returns : tie.Need-returns
@@ -56,7 +56,7 @@ returns-4 c =
 read-weights-requires : tie.Need-read-weights-requires
 read-weights-requires c κs =
     let in-limits = c .before .before .before in
-    let bounds = within 1 500 (in-limits .before .before .before .count .given .0 .0) (inside in-limits) in
+    let bounds = within 1 mostSeverities (in-limits .before .before .before .count .given .0 .0) (inside in-limits) in
     (omega (arith, bounds), bounds .1, search needs)
 
 pub read-severity-spec : {M : Type 1} → statement M
