@@ -49,7 +49,9 @@ first-append [] ds t = refl
 first-append (c ∷ cs) ds t = by (c .holds) (first-append cs ds (and-right (ltb 0 (c .number)) (allNumbered cs) t))
   where
     refuses : eqb (c .number) 0 ≡ false
-    refuses = ne-eqb (c .number) 0 (λ e. NL.not-suc-le-zero (rw e at (ltb→lt 0 (c .number) (and-left (ltb 0 (c .number)) (allNumbered cs) t))))
+    refuses =
+        let more = ltb→lt 0 (c .number) (and-left (ltb 0 (c .number)) (allNumbered cs) t) in
+        ne-eqb (c .number) 0 (λ e. NL.not-suc-le-zero (rw e at more))
 
     refusal : Answer
     refusal = refused (c .number) (c .place)
