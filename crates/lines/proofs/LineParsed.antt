@@ -3,7 +3,7 @@ use mathlib.Core.Path.{_≡_, refl, sym, ap, subst, _∙_}
 use mathlib.Core.Bool.{Bool, true, false, _&&_, cond, false≢true}
 use mathlib.Core.List.{List, [], _∷_, _++_, map, append-assoc}
 use mathlib.Core.Option.{Option, none, some}
-use Prim.Native.Nat.{ℕ, zero, suc}
+use Prim.Native.Nat.{ℕ, zero, suc, _≤_, _<_}
 use native.Mathlib.Omega.{arith}
 use borrow.Author.Tests.{eqb-true}
 use lib.Dec.{eqb, eqb→eq, lit<}
@@ -17,7 +17,8 @@ use Rattle.text.specs.Numbers.{decimal, number, AtMostTenDigits, signFits}
 use Rattle.text.specs.LineText.{lineText}
 use Rattle.text.proofs.Words.{split-at-first, words-joined}
 use Rattle.text.proofs.Decimal.{number-is-decimal}
-use Rattle.lines.specs.Line.{Line, numbers, faulty, both, allNumbers, ofNumbers, ofWords, line, signed, natural, keywordOf, numberWords}
+use Rattle.lines.specs.Line.{Line, numbers, faulty, both, allNumbers, ofNumbers, ofWords, line}
+use Rattle.lines.specs.Line.{signed, natural, keywordOf, numberWords}
 
 -- ---- words
 -- words that are numbers are their decimal texts
@@ -55,12 +56,16 @@ pub record Parsed (signs : Bool) (keyword : List ℕ) (count : ℕ) (s : List �
   pub small : (i : ℕ) → AtMostTenDigits (getD zs i (pos 0))
   pub fit : (i : ℕ) → signFits signs (getD zs i (pos 0)) ≡ true
 
--- and one that is refused by 24 has its keyword, and a word after it that is no number
+-- one that is refused is so by 22, 23 or 24; by 24 where it has its keyword, and a word after it that is no number
+pub record FaultyLine (signs : Bool) (keyword s : List ℕ) (reason : ℕ) : Type 0 where
+  pub least : 22 ≤ reason
+  pub most : reason ≤ 24
+  pub begins : reason ≡ 24 → keywordOf (before lineEnd s) ≡ keyword
+  pub word : reason ≡ 24 → allNumbers signs (numberWords (before lineEnd s)) ≡ none
+
 abbrev pub LineFacts : Bool → List ℕ → ℕ → List ℕ → Line → Type 0
 LineFacts signs keyword count s (numbers zs rest) = Parsed signs keyword count s zs rest
-LineFacts signs keyword count s (faulty reason) =
-    let l = before lineEnd s in
-    reason ≡ 24 → (keywordOf l ≡ keyword) × (allNumbers signs (numberWords l) ≡ none)
+LineFacts signs keyword count s (faulty reason) = FaultyLine signs keyword s reason
 
 module _ (signs : Bool) (keyword : List ℕ) (count : ℕ) (s : List ℕ) where
   -- the words after the keyword
@@ -71,10 +76,12 @@ module _ (signs : Bool) (keyword : List ℕ) (count : ℕ) (s : List ℕ) where
     where
       by : (zs : Option (List ℤ)) → allNumbers signs ws ≡ zs → Found signs ws zs
           → LineFacts signs keyword count s (ofNumbers zs (after lineEnd s))
-      by none e f = λ _. (
-        ap (λ (vs : List (List ℕ)). getD vs 0 []) stand,
-        ap (λ (vs : List (List ℕ)). allNumbers signs (drop 1 vs)) stand ∙ e,
-      )
+      by none e f = record {
+        least = omega arith;
+        most = omega arith;
+        begins = λ _. ap (λ (vs : List (List ℕ)). getD vs 0 []) stand;
+        word = λ _. ap (λ (vs : List (List ℕ)). allNumbers signs (drop 1 vs)) stand ∙ e;
+      }
       by (some zs) e f =
           let all : words (before lineEnd s) ≡ keyword ∷ map decimal zs = stand ∙ ap (λ (vs : List (List ℕ)). keyword ∷ vs) (f .written) in
           record {
@@ -87,6 +94,14 @@ module _ (signs : Bool) (keyword : List ℕ) (count : ℕ) (s : List ℕ) where
             fit = f .fit;
           }
 
+  by-form : (reason : ℕ) → 22 ≤ reason → reason < 24 → FaultyLine signs keyword s reason
+  by-form reason least less = record {
+    least = least;
+    most = omega arith;
+    begins = λ e. absurd (omega arith);
+    word = λ e. absurd (omega arith);
+  }
+
   pub line-facts : LineFacts signs keyword count s (line signs keyword count s)
   unfolding line
   line-facts = by (has lineEnd s) refl (words (before lineEnd s)) refl
@@ -94,16 +109,16 @@ module _ (signs : Bool) (keyword : List ℕ) (count : ℕ) (s : List ℕ) where
       form : (w : List ℕ) (ws : List (List ℕ)) → has lineEnd s ≡ true → words (before lineEnd s) ≡ w ∷ ws
           → (p : Bool) → sameList eqb w keyword ≡ p → (q : Bool) → eqb (length ws) count ≡ q
           → LineFacts signs keyword count s (cond (p && q) (ofNumbers (allNumbers signs ws) (after lineEnd s)) (faulty 23))
-      form w ws ends stand false t q u = λ e. absurd (omega arith)
-      form w ws ends stand true t false u = λ e. absurd (omega arith)
+      form w ws ends stand false t q u = by-form 23 (omega arith) (omega arith)
+      form w ws ends stand true t false u = by-form 23 (omega arith) (omega arith)
       form w ws ends stand true t true u =
           let same : w ≡ keyword = same-list ℕ eqb eqb→eq w keyword (rw t tt) in
           of-words ws ends (rw same at stand) (eqb-true (length ws) count u)
 
       by : (q : Bool) → has lineEnd s ≡ q → (ws : List (List ℕ)) → words (before lineEnd s) ≡ ws
           → LineFacts signs keyword count s (cond q (ofWords signs keyword count ws (after lineEnd s)) (faulty 22))
-      by false t ws stand = λ e. absurd (omega arith)
-      by true t [] stand = λ e. absurd (omega arith)
+      by false t ws stand = by-form 22 (omega arith) (omega arith)
+      by true t [] stand = by-form 23 (omega arith) (omega arith)
       by true t (w ∷ ws) stand = form w ws t stand (sameList eqb w keyword) refl (eqb (length ws) count) refl
 
   pub line-parsed : (zs : List ℤ) (rest : List ℕ) → line signs keyword count s ≡ numbers zs rest → Parsed signs keyword count s zs rest

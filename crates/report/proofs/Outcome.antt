@@ -1,10 +1,9 @@
 -- By cases on what the reader reads, and on whether the curve accepts it.
-use mathlib.Core.Path.{_≡_, refl, subst}
+use mathlib.Core.Path.{_≡_, refl}
 use mathlib.Core.Bool.{false}
 use mathlib.Core.Logic.{_⊎_, inl, inr}
 use mathlib.Core.List.{List}
 use Prim.Native.Nat.{ℕ}
-use native.Mathlib.Nat.{le-refl}
 use native.Mathlib.Omega.{arith}
 use borrow.Author.Tests.{ne-eqb}
 use lib.Dec.{eqb·suc-zero}
@@ -13,12 +12,12 @@ use Rattle.model.specs.Answer.{Answer, accepted, refused, isAccepted}
 use Rattle.model.specs.Limits.{mostSeverities}
 use Rattle.sheet.specs.Sheet.{Sheet}
 use Rattle.sheet.specs.Reading.{Reading, reads, refuses, reading}
-use Rattle.sheet.proofs.Taken.{takes-only-texts}
+use Rattle.sheet.proofs.Taken.{takes-only-texts, refusal-numbers}
 use Rattle.sheet.proofs.Texts.{takes-all-texts}
 use Rattle.compound.specs.Call.{curveAnswer}
 use Rattle.report.specs.Report.{programRows, curveText, reportText}
 use Rattle.report.specs.Report.{Table, Refusal, TableOrRefusal, AcceptedHasTable}
-use Rattle.report.proofs.Fits.{BySheet, reading-by-sheet, answers}
+use Rattle.report.proofs.Fits.{answers}
 
 abbrev Decided : Answer → Type 0
 Decided answer = (answer ≡ accepted) ⊎ (isAccepted answer ≡ false)
@@ -41,7 +40,7 @@ table-or-refusal s = by (reading mostSeverities s) refl
     by : (r : Reading) → reading mostSeverities s ≡ r → Table s ⊎ Refusal s
     by (reads sheet) e = by-curve sheet e (decided (sheet .job) (sheet .weights))
     by (refuses number n) e =
-        let own = subst BySheet e (reading-by-sheet mostSeverities (le-refl mostSeverities) s) in
+        let own = refusal-numbers mostSeverities s number n e .0 in
         inr (record { answer = refused number n; refused = ne-eqb number 0 (λ z. omega arith); text = rw e })
 
 pub accepted-has-table : AcceptedHasTable

@@ -8,7 +8,7 @@ use Prim.Native.Nat.{ℕ, zero, suc, _+_, _-_, _≤_, _<_, zero-le}
 use native.Mathlib.Decide.{ℕ-discrete}
 use native.Mathlib.Numerals.{add-one}
 use native.Mathlib.Omega.{arith}
-use borrow.Author.Tests.{ltb-false}
+use borrow.Author.Tests.{ltb-true, ltb-false}
 use lib.Dec.{eqb, ltb, lit<}
 use lib.IntN.{ℤ, pos}
 use lib.ListN.{length, getD, set, replicate, length-append, length-set}
@@ -32,7 +32,7 @@ use Rattle.sheet.specs.Sheet.{termsText, weightsText, sheetText}
 use Rattle.sheet.specs.Reading.{Reading, reads, refuses, on, noTerms, withTerm, sheetOf}
 use Rattle.sheet.specs.Reading.{weightLines, severityLine, lastLine, startLine, termLines, lawLine, mostBytes, reading}
 use Rattle.sheet.specs.Call.{told}
-use Rattle.sheet.specs.Accepts.{Terms, Writable, TakesOnlyTexts, NamesFaultyLine}
+use Rattle.sheet.specs.Accepts.{Terms, Writable, TakesOnlyTexts, RefusalNumbers, NamesFaultyLine}
 
 -- ---- what is read, and its text
 -- a law whose first i terms are read
@@ -49,8 +49,8 @@ record JobFits (job : Job) : Type 0 where
   high : AtMostTenDigits (pos (job .start .high))
   last : AtMostTenDigits (pos (job .last))
 
-writable : (job : Job) (ws : List ℕ) → JobFits job → 1 ≤ length ws → length ws ≤ mostSeverities → ((i : ℕ) → AtMostTenDigits (pos (getD ws i 0)))
-    → Writable (sheetOf job ws)
+writable : (job : Job) (ws : List ℕ) → JobFits job → 1 ≤ length ws → length ws ≤ mostSeverities
+    → ((i : ℕ) → AtMostTenDigits (pos (getD ws i 0))) → Writable (sheetOf job ws)
 writable job ws fits least most small = record {
   order-least = fits .law .order-least;
   order-most = fits .law .order-most;
@@ -150,9 +150,15 @@ weight-small (v ∷ ws) w h small (suc i) = weight-small ws w h (λ j. small (su
 -- ---- one line more
 module _ (places : ℕ) (all : List ℕ) where
   -- what is to be shown of the reading of a whole sheet
+  record Refusal (number n : ℕ) : Type 0 where
+    least : 21 ≤ number
+    most : number ≤ 27
+    places-few : number ≡ 27 → places < mostSeverities
+    word : number ≡ 24 → allNumbers (signsOn (lineAt n all)) (numberWords (lineAt n all)) ≡ none
+
   abbrev Right : Reading → Type 0
   Right (reads sheet) = Writable sheet × (length (sheet .weights) ≤ places) × (all ≡ sheetText sheet)
-  Right (refuses number n) = number ≡ 24 → allNumbers (signsOn (lineAt n all)) (numberWords (lineAt n all)) ≡ none
+  Right (refuses number n) = Refusal number n
 
   -- the reader stands at line n: the bytes `done` are read, and s is what follows them
   record Stands (n : ℕ) (done s : List ℕ) : Type 0 where
@@ -177,14 +183,33 @@ module _ (places : ℕ) (all : List ℕ) where
               reached = ap (λ (k : ℕ). afterLines k all) (omega arith) ∙ lines-last (n - 1) all
                   ∙ ap (after lineEnd) (here .reached) ∙ p .next;
             })
-        by (faulty reason) f = λ e.
-            let says = ap (λ (w : List ℕ). sameList eqb w TERM) (f e .0) ∙ same in
-            rw (here .reached, says) (f e .1)
+        by (faulty reason) f = record {
+          least = omega (arith, f .least);
+          most = omega (arith, f .most);
+          places-few = λ e. absurd (omega (arith, f .most));
+          word = λ e.
+              let says = ap (λ (w : List ℕ). sameList eqb w TERM) (f .begins e) ∙ same in
+              rw (here .reached, says) (f .word e);
+        }
 
-  -- a refusal by a number that is not 24
-  unless : (t : Bool) (number n : ℕ) (r : Reading) → (number ≡ 24 → ⊥) → (t ≡ false → Right r) → Right (cond t (refuses number n) r)
-  unless true number n r other right = λ e. absurd (other e)
-  unless false number n r other right = right refl
+  -- a refusal for the sheet, but not for a line's words, and the one for the row
+  for-sheet : (number n : ℕ) → 21 ≤ number → number ≤ 26 → (number ≡ 24 → ⊥) → Refusal number n
+  for-sheet number n least most other = record {
+    least = least;
+    most = omega arith;
+    places-few = λ e. absurd (omega arith);
+    word = λ e. absurd (other e);
+  }
+
+  for-row : (m n : ℕ) → m ≤ mostSeverities → places < m → Refusal 27 n
+  for-row m n most few =
+      record { least = omega arith; most = omega arith; places-few = λ _. omega arith; word = λ e. absurd (omega arith) }
+
+  -- a test of the line's numbers, and what follows where it fails
+  unless : (t : Bool) (number n : ℕ) (r : Reading) → (t ≡ true → Refusal number n) → (t ≡ false → Right r)
+      → Right (cond t (refuses number n) r)
+  unless true number n r refusal right = refusal refl
+  unless false number n r refusal right = right refl
 
   -- ---- the lines, from the last kind to the first
   module _ (job : Job) (m : ℕ) (fits : JobFits job) (least : 1 ≤ m) (most : m ≤ mostSeverities) (room : m ≤ places) where
@@ -195,7 +220,7 @@ module _ (places : ℕ) (all : List ℕ) where
         let counted : m ≡ length ws = omega arith in
         let text = here .split ∙ append-nil (tableText job m ws) ∙ ap (λ (k : ℕ). tableText job k ws) counted ∙ all-text job ws in
         (writable job ws fits (omega arith) (omega arith) small, omega arith, text)
-    weights ws zero n (b ∷ s) e small here = λ h. absurd (omega arith)
+    weights ws zero n (b ∷ s) e small here = for-sheet 26 n (omega arith) (omega arith) (λ h. omega arith)
     weights ws (suc due) n s e small here = goes-on false W 1 _ refl here λ zs rest p there.
         let w = natural zs 0 in
         weights (ws ++ (w ∷ [])) due (n + 1) rest (simp length-append (omega arith)) (weight-small ws w (p .small 0) small)
@@ -205,9 +230,9 @@ module _ (places : ℕ) (all : List ℕ) where
   unfolding severityLine weightsText
   severity job n s fits here = goes-on false SEVERITY 1 _ refl here λ zs rest p there.
       let m = natural zs 0 in
-      unless (outside 1 mostSeverities m) 25 n _ (λ e. omega arith) λ inside.
-      unless (ltb places m) 27 n _ (λ e. omega arith) λ room.
+      unless (outside 1 mostSeverities m) 25 n _ (λ _. for-sheet 25 n (omega arith) (omega arith) (λ e. omega arith)) λ inside.
       let limits = within 1 mostSeverities m inside in
+      unless (ltb places m) 27 n _ (λ t. for-row m n (limits .1) (ltb-true places m t)) λ room.
       weights job m fits (limits .0) (limits .1) (ltb-false places m room) [] m (n + 1) rest (omega arith) (λ i. lit< tt)
       (rw append-nil (rw (one-natural p) at there))
 
@@ -243,7 +268,7 @@ module _ (places : ℕ) (all : List ℕ) where
   unfolding lawLine termsText
   law s here = goes-on false LAW 2 _ refl here λ zs rest p there.
       let k = natural zs 0 in
-      unless (outside 1 mostOrder k) 25 1 _ (λ e. omega arith) λ inside.
+      unless (outside 1 mostOrder k) 25 1 _ (λ _. for-sheet 25 1 (omega arith) (omega arith) (λ e. omega arith)) λ inside.
       let limits = within 1 mostOrder k inside in
       terms (noTerms k (natural zs 1)) 0 k rest (omega arith)
       (record { order-least = limits .0; order-most = limits .1; divisor = p .small 1; a = no-terms; b = no-terms })
@@ -251,7 +276,7 @@ module _ (places : ℕ) (all : List ℕ) where
 
   right : Right (reading places all)
   unfolding reading afterLines
-  right = unless (outside 1 mostBytes (length all)) 21 0 _ (λ e. omega arith) λ _.
+  right = unless (outside 1 mostBytes (length all)) 21 0 _ (λ _. for-sheet 21 0 (omega arith) (omega arith) (λ e. omega arith)) λ _.
       law all (record { from-one = omega arith; split = refl; reached = refl })
 
 pub takes-only-texts : TakesOnlyTexts
@@ -265,5 +290,10 @@ counted places s = by (reading places s) refl
     by (reads sheet) e = let taken = takes-only-texts places s sheet e in (taken .0 .count-most, taken .1)
     by (refuses number line) e = (zero-le, zero-le)
 
+pub refusal-numbers : RefusalNumbers
+refusal-numbers places s number n e =
+    let refusal = subst (Right places s) e (right places s) in
+    (refusal .least, refusal .most, refusal .places-few)
+
 pub names-faulty-line : NamesFaultyLine
-names-faulty-line places s n e = subst (Right places s) e (right places s) refl
+names-faulty-line places s n e = subst (Right places s) e (right places s) .word refl

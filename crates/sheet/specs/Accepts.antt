@@ -3,7 +3,7 @@
 use mathlib.Core.Path.{_≡_}
 use mathlib.Core.List.{List}
 use mathlib.Core.Option.{none}
-use Prim.Native.Nat.{ℕ, _≤_}
+use Prim.Native.Nat.{ℕ, _≤_, _<_}
 use lib.IntN.{ℤ, pos}
 use lib.ListN.{length, getD}
 use Rattle.model.specs.Limits.{mostOrder, mostSeverities}
@@ -46,6 +46,11 @@ TakesAllTexts = (places : ℕ) (sheet : Sheet) → Writable sheet → length (sh
 -- none of them is too long, so that 21 refuses no writable sheet
 abbrev pub TextsFit : Type 0
 TextsFit = (sheet : Sheet) → Writable sheet → length (sheetText sheet) ≤ mostBytes
+
+-- any other is refused by one of the reader's numbers, and by 27 only where the row has fewer places than a table may have severities
+abbrev pub RefusalNumbers : Type 0
+RefusalNumbers = (places : ℕ) (s : List ℕ) (number n : ℕ) → reading places s ≡ refuses number n
+    → (21 ≤ number) × (number ≤ 27) × (number ≡ 27 → places < mostSeverities)
 
 -- with 24 the line that is named has, after its keyword, a word that is no number there
 abbrev pub NamesFaultyLine : Type 0

@@ -1,9 +1,8 @@
 -- By the reader's answer: an accepted sheet's text is that of its curve, a refused one's is the line of the refusal. Either has room.
 use borrow.Author.Needs.{needs}
-use mathlib.Core.Path.{_≡_, sym, ap, subst, _∙_}
+use mathlib.Core.Path.{_≡_, refl, sym, ap, subst, _∙_}
 use mathlib.Core.List.{List}
 use Prim.Native.Nat.{ℕ, _≤_}
-use native.Mathlib.Nat.{le-refl}
 use native.Mathlib.Omega.{arith}
 use lib.ListN.{length}
 use lib.Seq.{length-take-le}
@@ -18,19 +17,24 @@ use Rattle.lines.specs.Reason.{numberOf}
 use Rattle.sheet.specs.declared.LineAnswer.{LineAnswer}
 use Rattle.sheet.specs.Reading.{Reading, reads, refuses, reading}
 use Rattle.sheet.specs.Call.{Told, answerOf, paper, told}
-use Rattle.sheet.proofs.Taken.{counted}
+use Rattle.sheet.proofs.Taken.{counted, refusal-numbers}
 use Rattle.report.specs.Report.{refusalLine, curveText, readingText, reportText}
 use Rattle.report.specs.Fits.{room}
-use Rattle.report.proofs.Fits.{BySheet, reading-by-sheet, text-fits}
+use Rattle.report.proofs.Fits.{text-fits}
 use Rattle.report.proofs.report.Statement.{statement}
 use Rattle.report.proofs.report.Tie as tie
 
 -- ---- the text, from what the reader tells
-accepted-text : (r : Reading) (t : Told) → BySheet r → t ≡ told r → accepted ≡ t .answer → readingText r ≡ curveText (t .job) (t .weights)
-accepted-text (reads sheet) t own e a = ap (λ (t : Told). curveText (t .job) (t .weights)) (sym e)
-accepted-text (refuses number n) t own e a =
-    let none : 0 ≡ number = ap (λ (x : Answer). x .number) (a ∙ ap (λ (t : Told). t .answer) e) in
-    absurd (omega arith)
+accepted-text : (s : List ℕ) (t : Told) → t ≡ told (reading mostSeverities s) → accepted ≡ t .answer
+    → readingText (reading mostSeverities s) ≡ curveText (t .job) (t .weights)
+accepted-text s t tells a = by (reading mostSeverities s) refl tells
+  where
+    by : (r : Reading) → reading mostSeverities s ≡ r → t ≡ told r → readingText r ≡ curveText (t .job) (t .weights)
+    by (reads sheet) e h = ap (λ (t : Told). curveText (t .job) (t .weights)) (sym h)
+    by (refuses number n) e h =
+        let none : 0 ≡ number = ap (λ (x : Answer). x .number) (a ∙ ap (λ (t : Told). t .answer) h) in
+        let own = refusal-numbers mostSeverities s number n e .0 in
+        absurd (omega arith)
 
 refused-text : (r : Reading) (reason : Reason) (n : ℕ) → refused (numberOf reason) n ≡ told r .answer
     → readingText r ≡ refusalLine (refused (numberOf reason) n)
@@ -78,8 +82,7 @@ unfolding reportText
 returns c =
     let told = c .before .before .before .before in
     let read = told .before .before .before in
-    let text = accepted-text (reader read) _ (reading-by-sheet mostSeverities (le-refl mostSeverities) (sheet read)) (tells read)
-    (ap answerOf (sym (told .enum-told .given .1))) in
+    let text = accepted-text (sheet read) _ (tells read) (ap answerOf (sym (told .enum-told .given .1))) in
     in-buffer (sheet read) _ _ _ (search needs) (rw (sym text) at (c .put-curve .ensures))
 
 returns-2 : tie.Need-returns-2

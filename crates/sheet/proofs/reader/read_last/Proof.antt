@@ -14,14 +14,13 @@ abbrev rest : tie.After-read-one → List ℕ
 rest c = c .before .before .before .before .args .rest .now
 
 good : (c : tie.After-last) → GoodLine false LAST (rest (c .before .before)) (pos (c .last .given .0 .0) ∷ []) (c .last .given .0 .1 .0)
-good c = good-one LAST (rest (c .before .before)) (c .before .before .read-one .ensures) (c .last .given .1)
+good c = good-one LAST _ (c .before .before .read-one .ensures) (c .last .given .1)
 
 returns : tie.Need-returns
 unfolding lastLine
 returns c =
     let found = c .before .before in
-    let read = found .before .before in
-    rw (faulty-one LAST (rest read) (read .read-one .ensures) (found .reason .given .1)) (c .refused .ensures _)
+    rw (faulty-one LAST _ (found .before .before .read-one .ensures) (found .reason .given .1)) (c .refused .ensures _)
 
 returns-2 : tie.Need-returns-2
 unfolding lastLine

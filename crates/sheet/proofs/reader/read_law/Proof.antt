@@ -18,7 +18,7 @@ rest c = c .before .before .before .before .args .rest .now
 
 good : (c : tie.After-k)
     → GoodLine false LAW (rest (c .before .before)) (c .k .given .0 .0 ∷ c .k .given .0 .1 .0 ∷ []) (c .k .given .0 .1 .1 .0)
-good c = good-two false LAW (rest (c .before .before)) (c .before .before .read-two .ensures) (c .k .given .1)
+good c = good-two false LAW _ (c .before .before .read-two .ensures) (c .k .given .1)
 
 order-is : (c : tie.After-natural) → c .natural .result ≡ natAbs (c .before .before .k .given .0 .0)
 order-is c = c .natural .ensures ∙ ap natAbs (good (c .before .before) .held 0)
@@ -38,8 +38,7 @@ returns-2 : tie.Need-returns-2
 unfolding lawLine
 returns-2 c =
     let found = c .before .before in
-    let read = found .before .before in
-    rw (faulty-two false LAW (rest read) (read .read-two .ensures) (found .reason .given .1)) (c .refused .ensures _)
+    rw (faulty-two false LAW _ (found .before .before .read-two .ensures) (found .reason .given .1)) (c .refused .ensures _)
 
 returns-3 : tie.Need-returns-3
 unfolding lawLine

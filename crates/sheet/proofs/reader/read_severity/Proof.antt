@@ -20,7 +20,7 @@ rest c = c .before .before .before .before .args .rest .now
 
 good : (c : tie.After-count)
     → GoodLine false SEVERITY (rest (c .before .before)) (pos (c .count .given .0 .0) ∷ []) (c .count .given .0 .1 .0)
-good c = good-one SEVERITY (rest (c .before .before)) (c .before .before .read-one .ensures) (c .count .given .1)
+good c = good-one SEVERITY _ (c .before .before .read-one .ensures) (c .count .given .1)
 
 inside : (c : tie.Else1) → outside 1 mostSeverities (c .before .before .before .count .given .0 .0) ≡ false
 inside c = sym (c .before .is-outside .ensures) ∙ c .if1 .left
@@ -42,8 +42,7 @@ returns-3 : tie.Need-returns-3
 unfolding severityLine
 returns-3 c =
     let found = c .before .before in
-    let read = found .before .before in
-    rw (faulty-one SEVERITY (rest read) (read .read-one .ensures) (found .reason .given .1)) (c .refused .ensures _)
+    rw (faulty-one SEVERITY _ (found .before .before .read-one .ensures) (found .reason .given .1)) (c .refused .ensures _)
 
 returns-4 : tie.Need-returns-4
 unfolding severityLine

@@ -16,14 +16,13 @@ rest c = c .before .before .before .before .args .rest .now
 
 good : (c : tie.After-s)
     → GoodLine false START (rest (c .before .before)) (c .s .given .0 .0 ∷ c .s .given .0 .1 .0 ∷ []) (c .s .given .0 .1 .1 .0)
-good c = good-two false START (rest (c .before .before)) (c .before .before .read-two .ensures) (c .s .given .1)
+good c = good-two false START _ (c .before .before .read-two .ensures) (c .s .given .1)
 
 returns : tie.Need-returns
 unfolding startLine
 returns c =
     let found = c .before .before in
-    let read = found .before .before in
-    rw (faulty-two false START (rest read) (read .read-two .ensures) (found .reason .given .1)) (c .refused .ensures _)
+    rw (faulty-two false START _ (found .before .before .read-two .ensures) (found .reason .given .1)) (c .refused .ensures _)
 
 returns-2 : tie.Need-returns-2
 unfolding startLine
