@@ -13,17 +13,17 @@ use Rattle.sheet.proofs.Taken.{names-faulty-line}
 use Rattle.fault.specs.Call.{isNone, firstNoNumber}
 use Rattle.fault.specs.First.{FirstFaulty, HandsBackFirstFaulty}
 
-abbrev Found : Bool → List (List ℕ) → List ℕ → Option (List ℤ) → Type 0
-Found signs ws word none = FirstFaulty signs ws word
-Found signs ws word (some zs) = Unit {0}
+abbrev FirstIfAny : Bool → List (List ℕ) → List ℕ → Option (List ℤ) → Type 0
+FirstIfAny signs ws word none = FirstFaulty signs ws word
+FirstIfAny signs ws word (some zs) = Unit {0}
 
-found : (signs : Bool) (ws : List (List ℕ)) → Found signs ws (firstNoNumber signs ws) (allNumbers signs ws)
+first-if-any : (signs : Bool) (ws : List (List ℕ)) → FirstIfAny signs ws (firstNoNumber signs ws) (allNumbers signs ws)
 unfolding allNumbers firstNoNumber
-found signs [] = tt
-found signs (w ∷ ws) = by (number signs w) refl (allNumbers signs ws) (found signs ws)
+first-if-any signs [] = tt
+first-if-any signs (w ∷ ws) = by (number signs w) refl (allNumbers signs ws) (first-if-any signs ws)
   where
-    by : (z : Option ℤ) → number signs w ≡ z → (zs : Option (List ℤ)) → Found signs ws (firstNoNumber signs ws) zs
-        → Found signs (w ∷ ws) (cond (isNone z) w (firstNoNumber signs ws)) (both z zs)
+    by : (z : Option ℤ) → number signs w ≡ z → (zs : Option (List ℤ)) → FirstIfAny signs ws (firstNoNumber signs ws) zs
+        → FirstIfAny signs (w ∷ ws) (cond (isNone z) w (firstNoNumber signs ws)) (both z zs)
     by none e zs f = record { earlier = []; later = ws; stands = refl; values = []; are-numbers = refl; is-no-number = e }
     by (some z) e none f = record {
       earlier = w ∷ f .earlier;
@@ -38,4 +38,4 @@ found signs (w ∷ ws) = by (number signs w) refl (allNumbers signs ws) (found s
 pub hands-back-first-faulty : HandsBackFirstFaulty
 hands-back-first-faulty places s n e =
     let line = lineAt n s in
-    rw e (rw (names-faulty-line places s n e) at (found (signsOn line) (numberWords line)))
+    rw e (rw (names-faulty-line places s n e) at (first-if-any (signsOn line) (numberWords line)))

@@ -36,7 +36,8 @@ pub fn faulty_part(sheet: &[u8], places: usize) -> Part
     }
 }
 
-// The word itself: those bytes of the sheet, and no others that are the same.
+// The word itself, as that part of the sheet: it begins in the sheet's own bytes, `start` bytes behind the first, and not where the same
+// bytes may stand too.
 pub fn faulty_word(sheet: &[u8], places: usize) -> &[u8]
     ensures bytes { λ r. ⌜ now r ≡ faultyWord places (now (sheet .entry)) ⌝ }
     ensures place { λ r. ⌜ r .ptr ≡ ((sheet .entry) .ptr .0, faultyPart places (now (sheet .entry)) .start + (sheet .entry) .ptr .1) ⌝ }

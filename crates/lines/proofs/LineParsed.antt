@@ -27,16 +27,16 @@ record AreNumbers (signs : Bool) (ws : List (List ℕ)) (zs : List ℤ) : Type 0
   small : (i : ℕ) → AtMostTenDigits (getD zs i (pos 0))
   fit : (i : ℕ) → signFits signs (getD zs i (pos 0)) ≡ true
 
-abbrev Found : Bool → List (List ℕ) → Option (List ℤ) → Type 0
-Found signs ws (some zs) = AreNumbers signs ws zs
-Found signs ws none = Unit {0}
+abbrev ByWords : Bool → List (List ℕ) → Option (List ℤ) → Type 0
+ByWords signs ws (some zs) = AreNumbers signs ws zs
+ByWords signs ws none = Unit {0}
 
-found : (signs : Bool) (ws : List (List ℕ)) → Found signs ws (allNumbers signs ws)
+by-words : (signs : Bool) (ws : List (List ℕ)) → ByWords signs ws (allNumbers signs ws)
 unfolding allNumbers
-found signs [] = record { written = refl; small = λ i. lit< tt; fit = λ i. refl }
-found signs (w ∷ ws) = by (number signs w) refl (allNumbers signs ws) (found signs ws)
+by-words signs [] = record { written = refl; small = λ i. lit< tt; fit = λ i. refl }
+by-words signs (w ∷ ws) = by (number signs w) refl (allNumbers signs ws) (by-words signs ws)
   where
-    by : (z : Option ℤ) → number signs w ≡ z → (zs : Option (List ℤ)) → Found signs ws zs → Found signs (w ∷ ws) (both z zs)
+    by : (z : Option ℤ) → number signs w ≡ z → (zs : Option (List ℤ)) → ByWords signs ws zs → ByWords signs (w ∷ ws) (both z zs)
     by none e zs f = tt
     by (some z) e none f = tt
     by (some z) e (some zs) f =
@@ -72,9 +72,9 @@ module _ (signs : Bool) (keyword : List ℕ) (count : ℕ) (s : List ℕ) where
   of-words : (ws : List (List ℕ)) → has lineEnd s ≡ true → words (before lineEnd s) ≡ keyword ∷ ws → length ws ≡ count
       → LineFacts signs keyword count s (ofNumbers (allNumbers signs ws) (after lineEnd s))
   unfolding lineText
-  of-words ws ends stand counted = by (allNumbers signs ws) refl (found signs ws)
+  of-words ws ends stand counted = by (allNumbers signs ws) refl (by-words signs ws)
     where
-      by : (zs : Option (List ℤ)) → allNumbers signs ws ≡ zs → Found signs ws zs
+      by : (zs : Option (List ℤ)) → allNumbers signs ws ≡ zs → ByWords signs ws zs
           → LineFacts signs keyword count s (ofNumbers zs (after lineEnd s))
       by none e f = record {
         least = omega arith;

@@ -1,4 +1,4 @@
--- One line of a sheet: what it gives or why it is refused, and what is proved of it.
+-- One line of a sheet: what it gives, or why it is refused.
 pub mod Reason
 pub mod Keywords
 pub mod Line
