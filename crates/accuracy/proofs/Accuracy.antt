@@ -1,8 +1,10 @@
--- The five statements: an accepted job is within the limits and shows row 0 of the curve, of which the other files speak.
+-- The statements: an accepted job is within the limits and shows row 0 of the curve, of which the other files speak.
 use mathlib.Core.Path.{sym, subst, subst₂}
-use Rattle.compound.proofs.Accepted.{limits, shows}
+use native.Mathlib.Omega.{arith}
+use Rattle.rows.proofs.Filled.{sums-fit}
+use Rattle.compound.proofs.Accepted.{limits, no-fault, shows}
 use Rattle.exact.specs.JobAmount.{amount}
-use Rattle.accuracy.specs.Accuracy.{AcceptedDivisible, ShowsCurve, Encloses, GapWithinBound, SameBounds}
+use Rattle.accuracy.specs.Accuracy.{AcceptedDivisible, ShowsCurve, AcceptedSumsFit, Encloses, GapWithinBound, SameBounds}
 use Rattle.accuracy.proofs.Enclosure.{Between, amount-enclosed}
 use Rattle.accuracy.proofs.Gap.{Narrow, narrow}
 use Rattle.accuracy.proofs.Bounds.{SameBound, bounds}
@@ -14,6 +16,10 @@ accepted-divisible job weights lent ok =
 
 pub shows-curve : ShowsCurve
 shows-curve = shows
+
+pub accepted-sums-fit : AcceptedSumsFit
+accepted-sums-fit job weights lent ok x h = sums-fit job weights (limits job weights lent ok) x h
+    (λ z l. no-fault job weights lent ok z (omega arith))
 
 pub encloses : Encloses
 encloses job weights lent ok h x l p s t = subst (λ e. Between e (amount job weights h p x)) (sym (shows job weights lent ok x l))

@@ -22,7 +22,7 @@ use Rattle.outward.proofs.Division.{floor-is, ceil-is}
 use Rattle.model.specs.declared.Job.{Job}
 use Rattle.enclosure.specs.declared.Entry.{Entry}
 use Rattle.enclosure.specs.Entry.{none, plus, scaled, rounded}
-use Rattle.rows.specs.Curve.{factor, divisorZero, firstEntry, curveRows}
+use Rattle.rows.specs.Curve.{factor, firstEntry, curveRows}
 use Rattle.exact.specs.JobAmount.{Divisible, frequency, severity, amount}
 use Rattle.rows.proofs.Preserved.{Preserved, Follows, divisors-pos, all-preserved}
 open OrderedRing order using (_⊑_)
@@ -121,7 +121,7 @@ module _ (job : Job) (weights : List ℕ) (h : Divisible job weights) (p : Fract
   first-within (suc j) = rw first-further within-none
 
   exact-follows : Follows enclosing job weights (valueRow law table p)
-  unfolding factor divisorZero wholeFactor int
+  unfolding factor wholeFactor int
   exact-follows = record {
     first = λ j _. first-within j;
     row-zero = λ x _. recursion-value law table p (suc x);

@@ -22,8 +22,8 @@ use Rattle.model.proofs.Tests.{inside}
 use Rattle.rows.specs.Layout.{Lent}
 use Rattle.compound.specs.Call.{curveLent}
 use Rattle.compound.proofs.Accepted.{limits, entry-small, lows-long, highs-long}
-use Rattle.intervals.specs.Rows.{wrongLengths, wrongAt, firstWrong}
-use Rattle.intervals.specs.Enclosed.{Enclose}
+use Rattle.intervals.specs.Checks.{wrongLengths, wrongAt, firstWrong}
+use Rattle.intervals.specs.Amounts.{Enclose}
 use Rattle.quantile.specs.Call.{wrongLevel, unreached, quantiles}
 use Rattle.quantile.proofs.Enclosed.{quantile-enclosed}
 use Rattle.accuracy.specs.Accuracy.{Accepted, shown}

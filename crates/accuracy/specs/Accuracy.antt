@@ -2,7 +2,7 @@
 -- amount lies from low to high; high minus low is at most the bound; the bound depends on law, table and the start's gap alone.
 use mathlib.Core.Path.{_≡_}
 use mathlib.Core.List.{List}
-use Prim.Native.Nat.{ℕ, _≤_}
+use Prim.Native.Nat.{ℕ, suc, _≤_, _<_}
 use lib.IntN.{ℤ, pos, _-ℤ_}
 use lib.Signed.{_≤ℤ_}
 use lib.ListN.{getD}
@@ -12,7 +12,8 @@ use Rattle.model.specs.declared.Job.{Job}
 use Rattle.model.specs.Answer.{accepted}
 use Rattle.exact.specs.JobAmount.{Divisible, amount}
 use Rattle.enclosure.specs.declared.Entry.{Entry}
-use Rattle.rows.specs.Curve.{curveRows}
+use Rattle.enclosure.specs.Entry.{EntryFits}
+use Rattle.rows.specs.Curve.{sumsAt, curveRows}
 use Rattle.rows.specs.Layout.{Lent}
 use Rattle.compound.specs.Call.{curveAnswer, curveLent}
 
@@ -34,10 +35,15 @@ shown job weights lent x = record {
 abbrev pub AcceptedDivisible : Type 0
 AcceptedDivisible = (job : Job) (weights : List ℕ) (lent : Lent) → Accepted job weights lent → Divisible job weights
 
--- the tool shows row 0 of the curve, whose low, high and bound are those of the paper's rule (`CurveRule` of compound/specs/Curve)
+-- the tool shows row 0 of the curve, whose low, high and bound are those of the paper's rule (`CurveRule` of rows/specs/Curve)
 abbrev pub ShowsCurve : Type 0
 ShowsCurve = (job : Job) (weights : List ℕ) (lent : Lent) → Accepted job weights lent
     → (x : ℕ) → x ≤ job .last → shown job weights lent x ≡ curveRows job weights 0 x
+
+-- every sum that is divided on the way to an accepted job's rows fits 64 bits
+abbrev pub AcceptedSumsFit : Type 0
+AcceptedSumsFit = (job : Job) (weights : List ℕ) (lent : Lent) → Accepted job weights lent
+    → (x : ℕ) → x < job .last → (j : ℕ) → j < job .law .order → EntryFits (sumsAt (job .law) weights (curveRows job weights) j (suc x))
 
 -- the exact amount lies from low to high, for every starting chance from s to t, whole or fraction, ends included
 abbrev pub Encloses : Type 0

@@ -9,7 +9,7 @@ use Rattle.model.specs.declared.Job.{Job}
 use Rattle.model.specs.Answer.{condition, firstOf}
 use Rattle.rows.specs.Layout.{Lent}
 use Rattle.compound.specs.Call.{curveLent}
-use Rattle.intervals.specs.Enclosed.{Enclose}
+use Rattle.intervals.specs.Amounts.{Enclose}
 use Rattle.quantile.specs.Call.{wrongLevel, unreached, quantiles}
 use Rattle.quantile.specs.Enclosed.{QuantileFrom, Accepted as QueryAccepted}
 use Rattle.accuracy.specs.Accuracy.{Accepted}

@@ -12,9 +12,10 @@ use Rattle.algebra.specs.Sum.{accumulate}
 use Rattle.algebra.specs.Table.{Equates, sameInteger, sameList}
 use Rattle.algebra.proofs.Table.{and-left, and-right, each-passes, same-integer, same-list}
 use Rattle.outward.specs.Division.{floorDiv, ceilDiv}
+use Rattle.model.specs.Weights.{divisorZero}
 use Rattle.model.specs.Answer.{Answer, refused, firstOf}
 use Rattle.enclosure.specs.Entry.{scaled, rounded}
-use Rattle.rows.specs.Curve.{factor, sumsZero, sumsNext, divisorZero, entryAt, withNext, history, curveRows}
+use Rattle.rows.specs.Curve.{factor, sumsZero, sumsNext, entryAt, withNext, history, curveRows}
 use Rattle.rows.specs.Layout.{Lent, lentRows}
 use Rattle.rows.specs.Faults.{firstFault, rangeFault}
 use Rattle.compound.specs.Call.{curveAnswer, rowAfter, curveLent}

@@ -34,7 +34,7 @@ module _ (job : Job) (weights : List ℕ) (lent : Lent) (ok : curveAnswer job we
   pub limits : Limits job weights
   limits = passed .0
 
-  no-fault : FailBelow (faultAt (job .law .order) (curveRows job weights)) (job .last + 1)
+  pub no-fault : FailBelow (faultAt (job .law .order) (curveRows job weights)) (job .last + 1)
   unfolding firstFault
   no-fault =
       let ten = none-holds (faults job weights) [] tt (passed .2) .0 10 in

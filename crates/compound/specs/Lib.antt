@@ -1,3 +1,3 @@
--- The curve call, in the paper's words (`Call`); `Checks` serves the contracts of the crate's own functions.
+-- The curve call, in the paper's words (`Call`); `Checked` serves the contracts of the crate's own functions.
 pub mod Call
-pub mod Checks
+pub mod Checked

@@ -11,9 +11,9 @@ use Rattle.algebra.proofs.Sum.{sum-parts}
 use Rattle.enclosure.specs.declared.Entry.{Entry}
 use Rattle.enclosure.specs.declared.run.Run.{Run}
 use Rattle.enclosure.specs.declared.term.Factor.{Factor}
-use Rattle.enclosure.specs.Entry.{none, plus}
+use Rattle.enclosure.specs.Entry.{none, plus, EntryFits}
 use Rattle.enclosure.specs.Term.{TermRoom, lineAt, lineFactor, termAt}
-use Rattle.enclosure.specs.Run.{EntryFits, RunRoom, upright, runSums}
+use Rattle.enclosure.specs.Run.{RunRoom, upright, runSums}
 use Rattle.enclosure.proofs.Scaled.{plus-assoc, plus-comm, plus-none}
 use Rattle.enclosure.proofs.Line.{upright-small}
 use Rattle.enclosure.proofs.Sizes.{factor-small, grown-fits}

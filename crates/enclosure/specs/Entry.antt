@@ -3,6 +3,8 @@ use mathlib.Core.Bool.{Bool, _||_}
 use Prim.Native.Nat.{ℕ, _*_}
 use lib.IntN.{ℤ, pos, negsuc, negℤ, natAbs, _+ℤ_, _*ℤ_}
 use lib.Signed.{ltZ}
+use mir.Syntax.{w64}
+use mir.Val.{SFits}
 use Rattle.algebra.specs.Sum.{accumulate}
 use Rattle.model.specs.Limits.{unit, beyond}
 use Rattle.outward.specs.Division.{floorDiv, ceilDiv}
@@ -25,6 +27,12 @@ minus e f = plus e (opposite f)
 -- f 0 + f 1 + .. + f (n - 1)
 abbrev pub sumOf : ℕ → (ℕ → Entry) → Entry
 sumOf = accumulate none plus
+
+-- an entry whose numbers fit 64 signed bits
+pub record EntryFits (e : Entry) : Type 0 where
+  pub low : SFits w64 (e .low)
+  pub high : SFits w64 (e .high)
+  pub bound : SFits w64 (e .bound)
 
 -- ---- a factor times an entry
 -- "For the low sum, a factor that is zero or more takes the entry's low, a negative factor its high."

@@ -6,10 +6,8 @@ use Prim.Native.Nat.{ℕ, _+_, _-_, _*_, _^_, _≤_, _<_}
 use lib.IntN.{ℤ, pos, natAbs, negℤ, _+ℤ_, _-ℤ_, _*ℤ_}
 use lib.Signed.{_≤ℤ_, _<ℤ_}
 use lib.ListN.{length}
-use mir.Syntax.{w64}
-use mir.Val.{SFits}
 use Rattle.algebra.specs.Sum.{accumulateBack}
-use Rattle.model.specs.Table.{totalWeight}
+use Rattle.model.specs.Weights.{totalWeight}
 use Rattle.enclosure.specs.declared.Entry.{Entry}
 use Rattle.enclosure.specs.declared.raised.Raised.{Raised}
 use Rattle.enclosure.specs.declared.run.Run.{Run}
@@ -18,12 +16,7 @@ use Rattle.model.specs.Limits.{unit, mostLast}
 use Rattle.enclosure.specs.Entry.{none, plus}
 use Rattle.enclosure.specs.Term.{Small, lineAt, lineFactor, termAt}
 
--- ---- numbers that fit
-pub record EntryFits (e : Entry) : Type 0 where
-  pub low : SFits w64 (e .low)
-  pub high : SFits w64 (e .high)
-  pub bound : SFits w64 (e .bound)
-
+-- ---- a small factor
 pub record FactorSmall (f : Factor) : Type 0 where
   pub constant-small : natAbs (f .constant) ≤ 500000
   pub slope-small : natAbs (f .slope) ≤ 1000

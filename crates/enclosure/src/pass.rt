@@ -12,9 +12,9 @@ use super::term::negate;
 ghost use mathlib.Core.Path.{_≡_};
 ghost use Prim.Native.Nat.{_≤_};
 ghost use lib.ListN.{length};
-ghost use Rattle.enclosure.specs.Entry.{plus};
+ghost use Rattle.enclosure.specs.Entry.{plus, EntryFits};
 ghost use Rattle.enclosure.specs.Term.{TermRoom, lineFactor, entryOf, termSums};
-ghost use Rattle.enclosure.specs.Run.{EntryFits, FactorSmall, RunRoom, upright, runSums};
+ghost use Rattle.enclosure.specs.Run.{FactorSmall, RunRoom, upright, runSums};
 
 // The sums with those over a run added. Where the factors are zero or less, the sums with their negatives come off, and low and high
 // change places.

@@ -11,9 +11,8 @@ ghost use lib.Signed.{_≤ℤ_};
 ghost use mir.Syntax.{w64};
 ghost use mir.Val.{SFits};
 ghost use Rattle.outward.specs.Division.{ceilDiv};
-ghost use Rattle.enclosure.specs.Entry.{none, plus, minus, rounded, outOfRange, boundTooLarge};
+ghost use Rattle.enclosure.specs.Entry.{none, plus, minus, rounded, outOfRange, boundTooLarge, EntryFits};
 ghost use Rattle.model.specs.Limits.{beyond};
-ghost use Rattle.enclosure.specs.Run.{EntryFits};
 
 // The sum of no entries.
 pub fn none() -> Entry

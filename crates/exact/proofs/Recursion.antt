@@ -14,7 +14,7 @@ use Rattle.algebra.proofs.Sum.{sum-zero, sum-cong, sum-scale, sum-cut}
 use Rattle.algebra.specs.Fraction.{Fraction, over, overSuc, zeroTo}
 use Rattle.exact.specs.Frequency.{Frequency, a, b, countCoefficient}
 use Rattle.exact.specs.Severity.{Severity, weight, density, convolution}
-use Rattle.model.specs.Table.{totalWeight}
+use Rattle.model.specs.Weights.{totalWeight, divisorZero}
 use Rattle.exact.specs.Amount.{exactAmount}
 use Rattle.exact.specs.Recursion.{PublishedRecursion, RowRecursion, wholeFactor, WholeRecursion, WholeConvolution, FirstEntries}
 use Rattle.algebra.proofs.Value.{order, ℚ, value, eq-of-value, value-plus, value-times, value-oneTo}
@@ -101,10 +101,10 @@ module _ (law : Frequency) (table : Severity) (p : Fraction) where
   over-total y = value-over (pos (weight table y)) (totalWeight (table .weights)) (table .total-pos)
       ∙ int-pos (order .ring) (weight table y)
 
-  pub recursion-value : (x : ℕ) → nat ℚ (law .divisor * x * totalWeight (table .weights)) · E 0 x
+  pub recursion-value : (x : ℕ) → nat ℚ (divisorZero (law .divisor) (totalWeight (table .weights)) x) · E 0 x
       ≡ sum ℚ (law .order) (λ i. sum ℚ (min x (length (table .weights))) (λ y.
       integer (wholeFactor law table x (suc i) (suc y)) · E i (x - suc y)))
-  unfolding D W a b
+  unfolding D W a b divisorZero
   recursion-value x =
       ap (λ (v : A). v · E 0 x) (nat-mul ℚ (law .divisor * x) (totalWeight (table .weights))
       ∙ ap (λ (v : A). v · W) (nat-mul ℚ (law .divisor) x))

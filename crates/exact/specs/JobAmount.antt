@@ -6,7 +6,7 @@ use lib.ListN.{getD}
 use Rattle.algebra.specs.Fraction.{Fraction}
 use Rattle.model.specs.declared.Law.{Law}
 use Rattle.model.specs.declared.Job.{Job}
-use Rattle.model.specs.Table.{totalWeight}
+use Rattle.model.specs.Weights.{totalWeight}
 use Rattle.exact.specs.Frequency.{Frequency}
 use Rattle.exact.specs.Severity.{Severity}
 use Rattle.exact.specs.Amount.{exactAmount}

@@ -4,7 +4,7 @@ use Prim.Native.Nat.{ℕ, zero, suc, _-_, _≤_, _<_}
 use lib.IntN.{pos}
 use lib.ListN.{getD}
 use Rattle.algebra.specs.Fraction.{Fraction, over, whole, _⊗_, oneTo, _≈_}
-use Rattle.model.specs.Table.{totalWeight}
+use Rattle.model.specs.Weights.{totalWeight}
 
 -- the weights w(1), .., w(m)
 pub record Severity : Type 0 where

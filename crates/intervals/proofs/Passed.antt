@@ -14,7 +14,7 @@ use Rattle.algebra.proofs.Or.{or-left, or-right}
 use Rattle.algebra.proofs.Smallest.{smallest-finds}
 use Rattle.model.specs.Limits.{outside, unit, mostTotals, beyond}
 use Rattle.model.proofs.Tests.{within}
-use Rattle.intervals.specs.Rows.{wrongLengths, rowsCondition, wrongEntry, wrongAt, firstWrong, entryCondition, Summable}
+use Rattle.intervals.specs.Checks.{wrongLengths, rowsCondition, wrongEntry, wrongAt, firstWrong, entryCondition, Summable}
 
 -- 31
 pub same-length : (low high : ℕ) → wrongLengths low high ≡ false → low ≡ high

@@ -11,7 +11,7 @@ use Rattle.algebra.specs.Sum.{sumℤ}
 use Rattle.algebra.proofs.Natural.{sumℕ-most}
 use Rattle.algebra.proofs.Size.{size-sum, size-fits}
 use Rattle.model.specs.Limits.{unit}
-use Rattle.intervals.specs.Rows.{Summable}
+use Rattle.intervals.specs.Checks.{Summable}
 
 -- the sum of a row's entries before total n
 abbrev pub sumBefore : List ℤ → ℕ → ℤ

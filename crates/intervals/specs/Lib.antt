@@ -1,3 +1,3 @@
--- A row of lows and a row of highs: their checks (`Rows`), and the exact amounts that they enclose (`Enclosed`).
-pub mod Rows
-pub mod Enclosed
+-- A row of lows and a row of highs: their checks (`Checks`), and the exact amounts that they enclose (`Amounts`).
+pub mod Checks
+pub mod Amounts

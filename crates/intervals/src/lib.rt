@@ -6,7 +6,7 @@ use model::limits::is_either_beyond;
 use model::limits::is_outside;
 ghost use mathlib.Core.Path.{_≡_};
 ghost use lib.ListN.{length};
-ghost use Rattle.intervals.specs.Rows.{wrongLengths, wrongEntry, firstWrong};
+ghost use Rattle.intervals.specs.Checks.{wrongLengths, wrongEntry, firstWrong};
 
 // 31: whether rows of these lengths are empty, too long or unequal.
 pub fn are_wrong_rows(low: usize, high: usize) -> bool

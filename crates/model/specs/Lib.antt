@@ -1,5 +1,5 @@
 -- What the paper's calls have in common: its limits, a job and its table, answers and lists of conditions.
 pub mod Limits
-pub mod Table
+pub mod Weights
 pub mod Job
 pub mod Answer

@@ -1,3 +1,3 @@
 -- Bottom up: what a file cites stands above it.
-pub mod Table
+pub mod Lines
 pub mod Printed

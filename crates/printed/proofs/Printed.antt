@@ -17,11 +17,11 @@ use Rattle.enclosure.specs.declared.Entry.{Entry}
 use Rattle.rows.specs.Layout.{Lent}
 use Rattle.compound.specs.Call.{curveLent}
 use Rattle.accuracy.specs.Accuracy.{Accepted, shown}
-use Rattle.accuracy.proofs.Accuracy.{accepted-divisible, encloses, gap-within-bound, same-bounds}
+use Rattle.accuracy.proofs.Accuracy.{accepted-divisible, shows-curve, encloses, gap-within-bound, same-bounds}
 use Rattle.report.specs.Report.{programRows, rowsText, reportText, Table, Refusal}
 use Rattle.report.proofs.Outcome.{table-or-refusal, accepted-has-table}
 use Rattle.printed.specs.Printed.{TrueTable, PrintedIsTrue, EveryAcceptedPrinted, PrintedSameBounds}
-use Rattle.printed.proofs.Table.{table-heading, table-lines, table-line}
+use Rattle.printed.proofs.Lines.{table-heading, table-lines, table-line}
 
 -- ---- a table
 module _ (s : List ℕ) (table : Table s) where
@@ -57,6 +57,7 @@ module _ (s : List ℕ) (table : Table s) where
           low = entry x .low;
           high = entry x .high;
           bound = entry x .bound;
+          rule = shows-curve (sheet .job) (sheet .weights) programRows (table .answer) x l;
           printed = shown-printed x l;
           encloses = encloses (sheet .job) (sheet .weights) programRows (table .answer) divisible x l;
           narrow = gap-within-bound (sheet .job) (sheet .weights) programRows (table .answer) x l;

@@ -13,15 +13,18 @@ use Rattle.text.specs.Numbers.{decimal}
 use Rattle.sheet.specs.Sheet.{Sheet, sheetText}
 use Rattle.sheet.specs.Accepts.{Writable}
 use Rattle.exact.specs.JobAmount.{Divisible, amount}
+use Rattle.rows.specs.Curve.{curveRows}
 use Rattle.accuracy.specs.Accuracy.{Accepted, gap}
 use Rattle.report.specs.Report.{programRows, reportText, Refusal}
 
--- line x + 2 of a text, the heading being line 1: what it says of total x is true of the sheet's job
+-- line x + 2 of a text, the heading being line 1: it says what the rule gives at total x, and that is true of the sheet's job
 pub record TrueLine (sheet : Sheet) (h : Divisible (sheet .job) (sheet .weights)) (text : List ℕ) (x : ℕ) : Type 0 where
   pub low : ℤ
   pub high : ℤ
   pub bound : ℤ
-  -- "one line for each total: total, low, high, bound"; no other numbers have this text (`LineTextTells` of text/specs/Output)
+  -- they are those of the paper's rule (`CurveRule` of rows/specs/Curve)
+  pub rule : record { low = low; high = high; bound = bound } ≡ curveRows (sheet .job) (sheet .weights) 0 x
+  -- "one line for each total: total, low, high, bound"; no other numbers have this text (`LineTextTells` of text/specs/LineText)
   pub printed : lineAt (x + 2) text ≡ decimal (pos x) ++ spaced (map decimal (low ∷ high ∷ bound ∷ []))
   -- the exact amount lies from low to high, for every starting chance from the low start to the high start, whole or fraction
   pub encloses : (p : Fraction) → whole (pos (sheet .job .start .low)) ≼ p → p ≼ whole (pos (sheet .job .start .high))

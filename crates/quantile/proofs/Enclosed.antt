@@ -16,7 +16,7 @@ use Rattle.algebra.proofs.Smallest.{smallest-finds, least-exists}
 use Rattle.algebra.proofs.Value.{≼-refl, ≼-trans, ≼-dec, zeroTo-mono, whole-mono, whole-le-sum, le-of-whole-sum}
 use Rattle.model.specs.Answer.{Answer, accepted}
 use Rattle.model.proofs.Answer.{none-holds}
-use Rattle.intervals.specs.Enclosed.{entries, Enclose}
+use Rattle.intervals.specs.Amounts.{entries, Enclose}
 use Rattle.intervals.proofs.Passed.{Passed, passed}
 use Rattle.quantile.specs.Call.{runningSum, quantileOf, checks, answered, quantiles}
 use Rattle.quantile.specs.Enclosed.{Quantile, QuantileFrom, Accepted}

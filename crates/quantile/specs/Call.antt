@@ -10,7 +10,7 @@ use Rattle.algebra.specs.Smallest.{smallest}
 use Rattle.algebra.specs.Sum.{sumℤ}
 use Rattle.model.specs.Answer.{Answer, Condition, accepted, refused, isAccepted, condition, firstOf}
 use Rattle.model.specs.Limits.{unit}
-use Rattle.intervals.specs.Rows.{rowsCondition, entryCondition}
+use Rattle.intervals.specs.Checks.{rowsCondition, entryCondition}
 use Rattle.quantile.specs.declared.Reason.{Reason}
 use Rattle.quantile.specs.declared.Reason.the-variants.{Rows, Level, Entry, Unreached}
 use Rattle.quantile.specs.declared.QuantileAnswer.{QuantileAnswer}

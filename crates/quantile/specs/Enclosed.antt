@@ -6,7 +6,7 @@ use lib.IntN.{ℤ}
 use lib.ListN.{length}
 use Rattle.algebra.specs.Fraction.{Fraction, whole, _≼_, zeroTo}
 use Rattle.model.specs.Answer.{accepted}
-use Rattle.intervals.specs.Enclosed.{entries, Enclose}
+use Rattle.intervals.specs.Amounts.{entries, Enclose}
 use Rattle.quantile.specs.Call.{quantiles}
 
 -- x is the quantile of the amounts at the level: the smallest total at which their sum, from 0 to it, reaches the level

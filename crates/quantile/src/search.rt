@@ -1,7 +1,7 @@
 // The one search of the level query: sure is its answer on the lows, possible its answer on the highs.
 
 ghost use mathlib.Core.Path.{_≡_};
-ghost use Rattle.intervals.specs.Rows.{Summable};
+ghost use Rattle.intervals.specs.Checks.{Summable};
 ghost use Rattle.quantile.specs.Call.{quantileOf};
 
 // The smallest total whose entries, summed from total 0, reach the level, and the row's length where none does.

@@ -35,13 +35,13 @@ table-or-refusal s = by (reading mostSeverities s) refl
         let taken = takes-only-texts mostSeverities s sheet e in
         inl (record { sheet = sheet; writable = taken .0; bytes = taken .2; answer = a; text = rw (e, a) })
     by-curve sheet e (inr a) =
-        inr (record { answer = curveAnswer (sheet .job) (sheet .weights) programRows; refused = a; text = rw (e, a) })
+        inr (record { answer = curveAnswer (sheet .job) (sheet .weights) programRows; due = rw e; refused = a; text = rw (e, a) })
 
     by : (r : Reading) → reading mostSeverities s ≡ r → Table s ⊎ Refusal s
     by (reads sheet) e = by-curve sheet e (decided (sheet .job) (sheet .weights))
     by (refuses number n) e =
         let own = refusal-numbers mostSeverities s number n e .0 in
-        inr (record { answer = refused number n; refused = ne-eqb number 0 (λ z. omega arith); text = rw e })
+        inr (record { answer = refused number n; due = rw e; refused = ne-eqb number 0 (λ z. omega arith); text = rw e })
 
 pub accepted-has-table : AcceptedHasTable
 unfolding reportText curveText

@@ -71,8 +71,15 @@ pub record Table (s : List ℕ) : Type 0 where
   pub answer : curveAnswer (sheet .job) (sheet .weights) programRows ≡ accepted
   pub text : reportText s ≡ rowsText (sheet .job) (curveLent (sheet .job) (sheet .weights) programRows)
 
+-- what the program answers: the reader's refusal, or, where the reader takes the sheet, the curve call's answer
+abbrev pub readingAnswer : Reading → Answer
+readingAnswer (reads sheet) = curveAnswer (sheet .job) (sheet .weights) programRows
+readingAnswer (refuses number line) = refused number line
+
+-- else one line is written: the refusal's number, and its place or line
 pub record Refusal (s : List ℕ) : Type 0 where
   pub answer : Answer
+  pub due : answer ≡ readingAnswer (reading mostSeverities s)
   pub refused : isAccepted answer ≡ false
   pub text : reportText s ≡ refusalLine answer
 

@@ -1,6 +1,6 @@
 // The program's text: from a sheet's bytes to the bytes that `curve` writes.
 
-mod layout;
+mod table;
 
 use compound::CurveAnswer;
 use model::Job;
@@ -31,10 +31,10 @@ fn put_curve(out: &mut [u8], job: Job, weights: &[u64]) -> usize
     let answer = compound::curve(job, weights, &mut low, &mut high, &mut bound, &mut work);
     match answer {
         CurveAnswer::Accepted => {
-            layout::put_table(out, job.last as usize + 1, &low, &high, &bound)
+            table::put_table(out, job.last as usize + 1, &low, &high, &bound)
         }
         CurveAnswer::Refused(reason, place) => {
-            layout::put_refusal(out, compound::reason_number(reason), place)
+            table::put_refusal(out, compound::reason_number(reason), place)
         }
     }
 }
@@ -54,7 +54,7 @@ pub fn report(sheet: &[u8], out: &mut [u8; ROOM]) -> usize
             put_curve(out, job, &row[..count])
         }
         LineAnswer::Refused(reason, line) => {
-            layout::put_refusal(out, lines::reason_number(reason), line)
+            table::put_refusal(out, lines::reason_number(reason), line)
         }
     }
 }

@@ -10,12 +10,12 @@ use lib.ListN.{getD}
 use Rattle.algebra.specs.Sum.{accumulate}
 use Rattle.algebra.proofs.Induction.{strong}
 use Rattle.algebra.proofs.Sum.{sum-related}
-use Rattle.model.specs.Table.{totalWeight}
+use Rattle.model.specs.Weights.{totalWeight, divisorZero}
 use Rattle.model.specs.declared.Law.{Law}
 use Rattle.model.specs.declared.Job.{Job}
 use Rattle.enclosure.specs.declared.Entry.{Entry}
 use Rattle.enclosure.specs.Entry.{none, plus, sumOf, scaled, rounded}
-use Rattle.rows.specs.Curve.{severities, factor, divisorZero, divisorAt, firstEntry, sumsZero, sumsNext, entryAt, curveRows}
+use Rattle.rows.specs.Curve.{severities, factor, divisorAt, firstEntry, sumsZero, sumsNext, entryAt, curveRows}
 use Rattle.rows.proofs.Recursion.{curve-rule}
 
 -- a relation of entries to other numbers that is preserved where both are added, multiplied and divided
@@ -35,7 +35,7 @@ abbrev pub Divisors : Law → List ℕ → Type 0
 Divisors law weights = (j x : ℕ) → j < law .order → 1 ≤ divisorAt law weights j (suc x)
 
 module _ (law : Law) (weights : List ℕ) (divisor-pos : 1 ≤ law .divisor) (total-pos : 1 ≤ totalWeight weights) where
-  pub divisor-pos-zero : (x : ℕ) → 1 ≤ x → 1 ≤ divisorZero law weights x
+  pub divisor-pos-zero : (x : ℕ) → 1 ≤ x → 1 ≤ divisorAt law weights 0 x
   unfolding divisorZero
   divisor-pos-zero x h = NL.mul-pos (NL.mul-pos divisor-pos h) total-pos
 

@@ -17,10 +17,9 @@ use Rattle.model.specs.declared.Law.{Law}
 use Rattle.model.specs.Limits.{mostLast}
 use Rattle.enclosure.specs.declared.Entry.{Entry}
 use Rattle.enclosure.specs.declared.term.Factor.{Factor}
-use Rattle.enclosure.specs.Entry.{none, plus, sumOf, scaled}
+use Rattle.enclosure.specs.Entry.{none, plus, sumOf, scaled, EntryFits}
 use Rattle.rows.specs.Curve.{Rows, severities, factor, sumsZero, sumsNext, sumsAt}
 use Rattle.rows.specs.Layout.{Lent, Reachable}
-use Rattle.enclosure.specs.Run.{EntryFits}
 use Rattle.enclosure.specs.Term.{TermRoom, lineFactor, termSums}
 use Rattle.rows.specs.Progress.{Basis, Ready, termFactor, weightAlone}
 use Rattle.enclosure.proofs.Scaled.{plus-assoc, plus-none}

@@ -1,11 +1,11 @@
 -- "The curve, by the outward rule".
 use mathlib.Core.Path.{_≡_}
 use mathlib.Core.List.{List, [], _∷_, _++_}
-use Prim.Native.Nat.{ℕ, zero, suc, _-_, _*_, _<_, min}
+use Prim.Native.Nat.{ℕ, zero, suc, _-_, _<_, min}
 use lib.IntN.{ℤ, pos, _+ℤ_, _-ℤ_, _*ℤ_}
 use lib.ListN.{length, getD}
 use Rattle.algebra.specs.Slice.{listed}
-use Rattle.model.specs.Table.{totalWeight}
+use Rattle.model.specs.Weights.{totalWeight, divisorZero}
 use Rattle.model.specs.declared.Law.{Law}
 use Rattle.model.specs.declared.Start.{Start}
 use Rattle.model.specs.declared.Job.{Job}
@@ -42,13 +42,9 @@ module _ (law : Law) (weights : List ℕ) where
   sumsAt rows zero x = sumsZero rows x
   sumsAt rows (suc j) x = sumsNext weights rows j x
 
-  -- "The divisor is D times x times W.", of row 0
-  unfoldable pub divisorZero : ℕ → ℕ
-  divisorZero x = law .divisor * x * totalWeight weights
-
-  -- of row j; of the others "The divisor is W."
+  -- the divisor of row j: that of row 0 is D x W; of the others "The divisor is W."
   abbrev pub divisorAt : ℕ → ℕ → ℕ
-  divisorAt zero x = divisorZero x
+  divisorAt zero x = divisorZero (law .divisor) (totalWeight weights) x
   divisorAt (suc j) x = totalWeight weights
 
 -- "At total 0: row 0 has low s, high t, bound t-s. Other rows have 0, 0, 0."

@@ -3,7 +3,7 @@ use mathlib.Core.List.{List}
 use Prim.Native.Nat.{ℕ, suc, _<_}
 use Rattle.algebra.specs.Smallest.{FailBelow}
 use Rattle.model.specs.declared.Job.{Job}
-use Rattle.enclosure.specs.Run.{EntryFits}
+use Rattle.enclosure.specs.Entry.{EntryFits}
 use Rattle.rows.specs.Curve.{sumsAt, curveRows}
 use Rattle.rows.specs.Faults.{faultAt}
 use Rattle.rows.specs.Limits.{Limits}

@@ -6,7 +6,7 @@ use lib.ListN.{getD}
 use Rattle.model.specs.declared.Law.{Law}
 use Rattle.model.specs.declared.Job.{Job}
 use Rattle.model.specs.Limits.{unit, mostOrder, mostLast}
-use Rattle.model.specs.Table.{totalWeight}
+use Rattle.model.specs.Weights.{totalWeight}
 
 -- what checks 1 to 3 leave of its law
 pub record LawLimits (law : Law) : Type 0 where

@@ -9,7 +9,7 @@ use model::Job;
 ghost use mathlib.Core.Path.{_≡_};
 ghost use mathlib.Core.Bool.{_||_};
 ghost use Prim.Native.Nat.{_+_};
-ghost use Rattle.model.specs.Table.{totalWeight};
+ghost use Rattle.model.specs.Weights.{totalWeight};
 ghost use Rattle.enclosure.specs.Entry.{outOfRange, boundTooLarge};
 ghost use Rattle.rows.specs.Curve.{entryAt};
 ghost use Rattle.rows.specs.Layout.{lentRows, LongEnough, stored};

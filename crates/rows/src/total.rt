@@ -9,14 +9,12 @@ use model::Job;
 use model::Law;
 use model::Start;
 ghost use mathlib.Core.Path.{_≡_};
-ghost use mathlib.Core.List.{List};
-ghost use Prim.Native.Nat.{ℕ, _≤_, _<_, _^_};
+ghost use Prim.Native.Nat.{_≤_, _<_, _^_};
 ghost use lib.IntN.{pos, natAbs};
 ghost use lib.ListN.{getD};
-ghost use Rattle.model.specs.Table.{totalWeight};
+ghost use Rattle.model.specs.Weights.{totalWeight, divisorZero};
 ghost use Rattle.model.specs.Limits.{unit, mostOrder, mostLast};
-ghost use Rattle.model.specs.declared.Law.{Law};
-ghost use Rattle.rows.specs.Curve.{firstEntry, sumsZero, divisorZero, entryAt};
+ghost use Rattle.rows.specs.Curve.{firstEntry, sumsZero, entryAt};
 ghost use Rattle.rows.specs.Layout.{lentRows, stored};
 ghost use Rattle.rows.specs.Limits.{Limits};
 ghost use Rattle.rows.specs.Progress.{Ready, termFactor};
@@ -62,8 +60,7 @@ fn sums_zero<'rows>(
 // The divisor of row 0, from D and the sum of the weights.
 fn divisor_zero(divisor: u64, total: u64, x: usize) -> u64
     requires { ⌜ (divisor ≤ 1000) × (total ≤ 1000) × (x ≤ mostLast) ⌝ }
-    ensures divisor { λ r. ⌜ ((law : Law) (weights : List ℕ) → divisor ≡ law .divisor → total ≡ totalWeight weights
-        → r ≡ divisorZero law weights x) ⌝ }
+    ensures divisor { λ r. ⌜ r ≡ divisorZero divisor total x ⌝ }
     ensures fits { λ r. ⌜ r < 2 ^ 63 ⌝ }
 {
     divisor * x as u64 * total

@@ -6,7 +6,7 @@ use lib.ListN.{length}
 use mir.Syntax.{w64}
 use Rattle.algebra.proofs.Smallest.{Searched, searched-none, searched-next, searched-found, searched-all}
 use Rattle.algebra.proofs.Size.{held}
-use Rattle.intervals.specs.Rows.{wrongAt}
+use Rattle.intervals.specs.Checks.{wrongAt}
 use Rattle.intervals.proofs.first_wrong_entry.Statement.{statement}
 use Rattle.intervals.proofs.first_wrong_entry.Tie as tie
 

@@ -9,15 +9,15 @@ use Prim.Native.Nat.{ℕ}
 use native.Mathlib.Omega.{arith}
 use lib.Dec.{ltb, lit<}
 use Rattle.model.specs.Limits.{mostOrder, mostLast}
-use Rattle.model.specs.Table.{totalWeight}
+use Rattle.model.specs.Weights.{totalWeight}
 use Rattle.model.specs.Answer.{Answer, Condition, refused, isAccepted}
 use Rattle.model.proofs.Answer.{Due, due-first, due-next, due-refuses, due-accepts}
 use Rattle.model.proofs.Tests.{within}
 use Rattle.compound.specs.declared.Reason.{Reason}
 use Rattle.compound.specs.declared.check.Checked.{Checked}
 use Rattle.compound.specs.Call.{numberOf, paper, checks}
-use Rattle.compound.specs.Checks.{refusedBy}
-use Rattle.compound.proofs.Tests.{capped-outside}
+use Rattle.compound.specs.Checked.{refusedBy}
+use Rattle.compound.proofs.Capped.{capped-outside}
 use Rattle.compound.proofs.Returned.{reason-refuses}
 use Rattle.compound.proofs.check.check.Statement.{statement}
 use Rattle.compound.proofs.check.check.Tie as tie

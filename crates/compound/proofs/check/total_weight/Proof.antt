@@ -7,7 +7,7 @@ use native.Mathlib.Omega.{arith}
 use lib.ListN.{length, drop, getD}
 use lib.Seq.{drop-length}
 use Rattle.algebra.proofs.Slice.{drop-next}
-use Rattle.model.specs.Table.{totalWeight}
+use Rattle.model.specs.Weights.{totalWeight}
 use Rattle.compound.proofs.check.total_weight.Statement.{statement}
 use Rattle.compound.proofs.check.total_weight.Tie as tie
 

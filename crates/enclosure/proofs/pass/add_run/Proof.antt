@@ -2,9 +2,9 @@
 use borrow.Author.Needs.{needs}
 use mathlib.Core.Path.{_≡_, sym, _∙_, ap, subst}
 use Rattle.enclosure.specs.declared.Entry.{Entry}
-use Rattle.enclosure.specs.Entry.{plus, minus}
+use Rattle.enclosure.specs.Entry.{plus, minus, EntryFits}
 use Rattle.enclosure.specs.Term.{entryOf}
-use Rattle.enclosure.specs.Run.{EntryFits, runSums}
+use Rattle.enclosure.specs.Run.{runSums}
 use Rattle.enclosure.proofs.Scaled.{opposite-sums}
 use Rattle.enclosure.proofs.pass.add_run.Statement.{statement}
 use Rattle.enclosure.proofs.pass.add_run.Tie as tie

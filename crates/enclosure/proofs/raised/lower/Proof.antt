@@ -9,7 +9,8 @@ use mir.Facts.{toZ-pos}
 use Rattle.algebra.proofs.Size.{size-sub, size-fits}
 use Rattle.enclosure.specs.declared.raised.Raised.{Raised}
 use Rattle.model.specs.Limits.{unit}
-use Rattle.enclosure.specs.Run.{EntryFits, RaisedSmall, lowered}
+use Rattle.enclosure.specs.Entry.{EntryFits}
+use Rattle.enclosure.specs.Run.{RaisedSmall, lowered}
 use Rattle.enclosure.proofs.Scaled.{same-entry}
 use Rattle.enclosure.proofs.raised.lower.Statement.{statement}
 use Rattle.enclosure.proofs.raised.lower.Tie as tie

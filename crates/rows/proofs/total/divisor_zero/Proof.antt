@@ -1,9 +1,10 @@
 -- The product is at most 1,000 times 500 times 1,000.
+use mathlib.Core.Path.{refl}
 use Prim.Native.Nat.{_*_, _≤_}
 use native.Mathlib.Nat.{mul-le-mul}
 use native.Mathlib.Omega.{arith}
 use Rattle.model.specs.Limits.{mostLast}
-use Rattle.rows.specs.Curve.{divisorZero}
+use Rattle.model.specs.Weights.{divisorZero}
 use Rattle.rows.proofs.total.divisor_zero.Statement.{statement}
 use Rattle.rows.proofs.total.divisor_zero.Tie as tie
 
@@ -22,7 +23,7 @@ mul-result-2 c = record { fits = omega (arith, product-most c) }
 
 returns : tie.Need-returns
 unfolding divisorZero
-returns c = (λ law weights d w. rw (← d, ← w), omega (arith, product-most c))
+returns c = (refl, omega (arith, product-most c))
 
 pub divisor-zero-spec : {M : Type 1} → statement M
 divisor-zero-spec = tie.close (tie.spec mul-result mul-result-2 returns)

@@ -1,9 +1,10 @@
 -- The three cases of the rule are the code's three ways: at total 0 the start, later the sums of row 0, or those of the term whose factor is
 -- the weight, divided.
 use borrow.Author.Needs.{needs}
-use mathlib.Core.Path.{_≡_, refl, sym, _∙_, ap₂}
-use Prim.Native.Nat.{suc, _-_, _<_}
+use mathlib.Core.Path.{_≡_, sym, _∙_, ap, ap₂}
+use Prim.Native.Nat.{ℕ, suc, _-_, _<_}
 use native.Mathlib.Omega.{arith}
+use Rattle.model.specs.Weights.{divisorZero}
 use Rattle.enclosure.specs.Entry.{rounded}
 use Rattle.rows.specs.Curve.{sumsNext}
 use Rattle.rows.specs.Layout.{lentRows, stored}
@@ -36,7 +37,7 @@ divide-sums-requires c κs =
     let basis = s .pre .1 .0 .basis in
     let least = divisor-pos-zero (a .job .law) (a .weights .now) (basis .law-limits .divisor-least) (basis .table-limits .weights-least)
     (a .x) (omega (arith, t .before .if1 .left)) in (
-      rw (c .divisor-zero .ensures .0 (a .job .law) (a .weights .now) refl (s .pre .0 .1)) least,
+      rw (c .divisor-zero .ensures .0, s .pre .0 .1) least,
       c .divisor-zero .ensures .1,
       rw (e .sums-zero .ensures) (bound-fits (a .job .law) (a .weights .now) (a .x) _ basis 0 _ (basis .law-limits .order-least)),
     )
@@ -48,7 +49,8 @@ returns-2 c =
     let s = t .before .before .before in
     let a = s .args in
     c .divide-sums .ensures
-    ∙ ap₂ rounded (d .divisor-zero .ensures .0 (a .job .law) (a .weights .now) refl (s .pre .0 .1)) (d .before .sums-zero .ensures)
+    ∙ ap₂ rounded (d .divisor-zero .ensures .0 ∙ ap (λ (w : ℕ). divisorZero (a .job .law .divisor) w (a .x)) (s .pre .0 .1))
+    (d .before .sums-zero .ensures)
     ∙ sym (entry-later (a .job) (a .weights .now) _ (a .row) (a .x) (t .before .if1 .left) 0 (t .if2 .taken))
 
 -- a further row, from the row before it
