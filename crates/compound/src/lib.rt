@@ -1,4 +1,4 @@
-// The curve by the outward rule: every chance as a low and a high with a bound on their gap.
+// The curve call: its checks, its answer, and what the lent rows hold on return.
 
 mod check;
 

@@ -1,4 +1,4 @@
--- The paper's limits, each once, and the tests of a limit.
+-- Limits of the paper that several crates name, each once, and the tests of a limit.
 use mathlib.Core.Bool.{Bool, _||_}
 use Prim.Native.Nat.{ℕ, _+_}
 use lib.Dec.{ltb}

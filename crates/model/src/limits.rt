@@ -1,4 +1,4 @@
-// The paper's limits, each once, and the tests of a limit.
+// Limits of the paper that several crates name, each once, and the tests of a limit.
 
 ghost use mathlib.Core.Path.{_≡_};
 ghost use mathlib.Core.Bool.{_||_};

@@ -1,5 +1,5 @@
 -- Total by total: below the total that is reached the rows hold the curve, and no entry there has a fault, so the next total can be
--- computed; at the first fault, or at the end, the answer is that of the definition.
+-- computed; the run stops at the first fault or at the end, as the definition says.
 use mathlib.Core.Path.{_≡_, sym, ap, _∙_, subst}
 use mathlib.Core.Bool.{Bool, true, false, _||_}
 use mathlib.Core.List.{List}

@@ -1,5 +1,6 @@
--- The curve by the outward rule (`Curve`), its faults (`Faults`), and that its sums fit (`Fits`), in the paper's words. `Limits`, `Layout`
--- and `Progress` serve the contracts of the functions that fill the rows.
+-- The curve by the outward rule (`Curve`), its faults (`Faults`), and that its sums fit (`Fits`), in the paper's words, for a job within
+-- limits (`Limits`). `Layout` begins with the lent rows of the curve call; the rest of it, and `Progress`, serve the contracts of the
+-- functions that fill the rows.
 pub mod Curve
 pub mod Faults
 pub mod Limits

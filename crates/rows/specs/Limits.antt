@@ -1,4 +1,4 @@
--- What the curve call's checks leave of a job: it lies within the paper's limits.
+-- What the functions that fill the rows need to know of a job, and the curve call's checks leave: its numbers lie within limits.
 use mathlib.Core.List.{List}
 use Prim.Native.Nat.{ℕ, _≤_, _<_}
 use lib.IntN.{pos, natAbs}
@@ -8,7 +8,7 @@ use Rattle.model.specs.declared.Job.{Job}
 use Rattle.model.specs.Limits.{unit, mostOrder, mostLast}
 use Rattle.model.specs.Weights.{totalWeight}
 
--- what checks 1 to 3 leave of its law
+-- of its law, by checks 1 to 3
 pub record LawLimits (law : Law) : Type 0 where
   pub order-least : 1 ≤ law .order
   pub order-most : law .order ≤ mostOrder
@@ -17,12 +17,12 @@ pub record LawLimits (law : Law) : Type 0 where
   pub a-small : (i : ℕ) → i < mostOrder → natAbs (getD (law .a) i (pos 0)) ≤ 1000
   pub b-small : (i : ℕ) → i < mostOrder → natAbs (getD (law .b) i (pos 0)) ≤ 1000
 
--- what check 6 leaves of its table
+-- of its table, by check 6
 pub record TableLimits (weights : List ℕ) : Type 0 where
   pub weights-least : 1 ≤ totalWeight weights
   pub weights-most : totalWeight weights ≤ 1000
 
--- what checks 1 to 7 leave
+-- of all of it, by checks 1 to 7
 pub record Limits (job : Job) (weights : List ℕ) : Type 0 where
   pub law : LawLimits (job .law)
   pub table : TableLimits weights
