@@ -64,7 +64,7 @@ def on_program(sheet):
 
 
 # each with the number of rows that there are at least
-KINDS = {"curve": (on_curve, 13), "reader": (on_reader, 5), "level": (on_level, 13), "program": (on_program, 4)}
+KINDS = {"curve": (on_curve, 13), "reader": (on_reader, 8), "level": (on_level, 13), "program": (on_program, 4)}
 
 
 class Row(NamedTuple):
