@@ -1,9 +1,9 @@
 -- The statements: an accepted job is within the limits and shows row 0 of the curve, of which the other files speak.
 use mathlib.Core.Path.{sym, subst, subst₂}
 use native.Mathlib.Omega.{arith}
+use Rattle.exact.specs.JobAmount.{amount}
 use Rattle.rows.proofs.Filled.{sums-fit}
 use Rattle.compound.proofs.Accepted.{limits, no-fault, shows}
-use Rattle.exact.specs.JobAmount.{amount}
 use Rattle.accuracy.specs.Accuracy.{AcceptedDivisible, ShowsCurve, AcceptedSumsFit, Encloses, GapWithinBound, SameBounds}
 use Rattle.accuracy.proofs.Enclosure.{Between, amount-enclosed}
 use Rattle.accuracy.proofs.Gap.{Narrow, narrow}

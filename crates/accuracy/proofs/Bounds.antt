@@ -4,17 +4,17 @@ use mathlib.Core.Path.{_≡_, refl, sym, ap, ap₂, subst}
 use mathlib.Core.List.{List}
 use Prim.Native.Nat.{ℕ, zero, suc, _<_}
 use lib.IntN.{ℤ, pos, natAbs, _+ℤ_, _*ℤ_}
-use Rattle.outward.specs.Division.{ceilDiv}
 use Rattle.model.specs.declared.Law.{Law}
 use Rattle.model.specs.declared.Job.{Job}
 use Rattle.model.specs.Job.{jobOf}
+use Rattle.exact.specs.JobAmount.{Divisible}
+use Rattle.outward.specs.Division.{ceilDiv}
 use Rattle.enclosure.specs.declared.Entry.{Entry}
 use Rattle.enclosure.specs.Entry.{none, plus, scaled, allowance, rounded}
 use Rattle.rows.specs.Curve.{factor, firstEntry, sumsZero, sumsNext, entryAt, curveRows}
 use Rattle.rows.proofs.Recursion.{curve-rule}
-use Rattle.exact.specs.JobAmount.{Divisible}
-use Rattle.accuracy.specs.Accuracy.{gap}
 use Rattle.rows.proofs.Preserved.{Preserved, Follows, divisors-pos, all-preserved}
+use Rattle.accuracy.specs.Accuracy.{gap}
 
 abbrev pub SameBound : Entry → Entry → Type 0
 SameBound e f = e .bound ≡ f .bound

@@ -13,17 +13,17 @@ use Rattle.algebra.proofs.Integer.{signed}
 use Rattle.algebra.proofs.Ring.{int-pos, int-add, int-mul}
 use Rattle.algebra.proofs.Order.{add-mono, mul-mono, mul-turn, mul-cancel-le, int-mono}
 use Rattle.algebra.proofs.Value.{order, ℚ, value, value-le, le-of-value, value-int}
+use Rattle.model.specs.declared.Job.{Job}
 use Rattle.exact.specs.Frequency.{Frequency}
 use Rattle.exact.specs.Severity.{Severity}
 use Rattle.exact.specs.Recursion.{wholeFactor}
 use Rattle.exact.proofs.Amount.{valueRow, value-amount}
 use Rattle.exact.proofs.Recursion.{recursion-value, convolution-value, first-value, first-further}
+use Rattle.exact.specs.JobAmount.{Divisible, frequency, severity, amount}
 use Rattle.outward.proofs.Division.{floor-is, ceil-is}
-use Rattle.model.specs.declared.Job.{Job}
 use Rattle.enclosure.specs.declared.Entry.{Entry}
 use Rattle.enclosure.specs.Entry.{none, plus, scaled, rounded}
 use Rattle.rows.specs.Curve.{factor, firstEntry, curveRows}
-use Rattle.exact.specs.JobAmount.{Divisible, frequency, severity, amount}
 use Rattle.rows.proofs.Preserved.{Preserved, Follows, divisors-pos, all-preserved}
 open OrderedRing order using (_⊑_)
 open Semiring ℚ using (carrier as A, 𝟘, _⊹_, _·_)

@@ -6,13 +6,13 @@ use native.Mathlib.Omega.{arith}
 use lib.IntN.{ℤ, pos, negsuc, negℤ, _-ℤ_, _*ℤ_}
 use lib.Signed.{_≤ℤ_, ≤ℤ-refl}
 use Rattle.algebra.proofs.Integer.{up, down, signed, split-add, split-mul, split-neg}
+use Rattle.model.specs.declared.Job.{Job}
+use Rattle.exact.specs.JobAmount.{Divisible}
 use Rattle.outward.specs.Division.{floorDiv, ceilDiv}
 use Rattle.outward.proofs.Division.{floor-is, ceil-is}
-use Rattle.model.specs.declared.Job.{Job}
 use Rattle.enclosure.specs.declared.Entry.{Entry}
 use Rattle.enclosure.specs.Entry.{plus, scaled, allowance, rounded}
 use Rattle.rows.specs.Curve.{firstEntry, curveRows}
-use Rattle.exact.specs.JobAmount.{Divisible}
 use Rattle.rows.proofs.Preserved.{PreservedAlone, divisors-pos, all-entries}
 
 abbrev pub Narrow : Entry → Type 0

@@ -19,6 +19,7 @@ use Rattle.model.specs.declared.Job.{Job}
 use Rattle.model.specs.Answer.{condition, firstOf}
 use Rattle.model.specs.Limits.{mostTotals}
 use Rattle.model.proofs.Tests.{inside}
+use Rattle.exact.specs.JobAmount.{Divisible, amount}
 use Rattle.rows.specs.Layout.{Lent}
 use Rattle.compound.specs.Call.{curveLent}
 use Rattle.compound.proofs.Accepted.{limits, entry-small, lows-long, highs-long}
@@ -27,7 +28,6 @@ use Rattle.intervals.specs.Amounts.{Enclose}
 use Rattle.quantile.specs.Call.{wrongLevel, unreached, quantiles}
 use Rattle.quantile.proofs.Enclosed.{quantile-enclosed}
 use Rattle.accuracy.specs.Accuracy.{Accepted, shown}
-use Rattle.exact.specs.JobAmount.{Divisible, amount}
 use Rattle.accuracy.specs.Query.{lows, highs, RowsNotRefused, RowsEnclose, EnclosesQuantile}
 use Rattle.accuracy.proofs.Accuracy.{accepted-divisible, encloses}
 

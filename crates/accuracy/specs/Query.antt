@@ -7,13 +7,13 @@ use lib.ListN.{take}
 use Rattle.algebra.specs.Fraction.{Fraction, whole, _≼_}
 use Rattle.model.specs.declared.Job.{Job}
 use Rattle.model.specs.Answer.{condition, firstOf}
+use Rattle.exact.specs.JobAmount.{Divisible, amount}
 use Rattle.rows.specs.Layout.{Lent}
 use Rattle.compound.specs.Call.{curveLent}
 use Rattle.intervals.specs.Amounts.{Enclose}
 use Rattle.quantile.specs.Call.{wrongLevel, unreached, quantiles}
 use Rattle.quantile.specs.Enclosed.{QuantileFrom, Accepted as QueryAccepted}
 use Rattle.accuracy.specs.Accuracy.{Accepted}
-use Rattle.exact.specs.JobAmount.{Divisible, amount}
 
 -- the first X+1 places of the lent rows on return
 abbrev pub lows : Job → List ℕ → Lent → List ℤ

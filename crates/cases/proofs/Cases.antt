@@ -11,9 +11,10 @@ use Rattle.algebra.specs.Smallest.{smallest}
 use Rattle.algebra.specs.Sum.{accumulate}
 use Rattle.algebra.specs.Table.{Equates, sameInteger, sameList}
 use Rattle.algebra.proofs.Table.{and-left, and-right, each-passes, same-integer, same-list}
-use Rattle.outward.specs.Division.{floorDiv, ceilDiv}
 use Rattle.model.specs.Weights.{divisorZero}
+use Rattle.model.specs.Job.{lawOf, startOf, jobOf}
 use Rattle.model.specs.Answer.{Answer, refused, firstOf}
+use Rattle.outward.specs.Division.{floorDiv, ceilDiv}
 use Rattle.enclosure.specs.Entry.{scaled, rounded}
 use Rattle.rows.specs.Curve.{factor, sumsZero, sumsNext, entryAt, withNext, history, curveRows}
 use Rattle.rows.specs.Layout.{Lent, lentRows}
@@ -51,11 +52,8 @@ same-bytes = same-list ℕ eqb eqb→eq
 toldBy : List ℕ → List (List ℤ) → List ℕ → Told
 toldBy numbers terms weights = record {
   answer = refused (getD numbers 0 0) (getD numbers 1 0);
-  job = record {
-    law = record { order = getD numbers 2 0; divisor = getD numbers 3 0; a = getD terms 0 []; b = getD terms 1 [] };
-    start = record { low = getD numbers 4 0; high = getD numbers 5 0 };
-    last = getD numbers 6 0;
-  };
+  job = jobOf (lawOf (getD numbers 2 0) (getD numbers 3 0) (getD terms 0 []) (getD terms 1 []))
+      (startOf (getD numbers 4 0) (getD numbers 5 0)) (getD numbers 6 0);
   count = getD numbers 7 0;
   weights = weights;
 }

@@ -17,8 +17,8 @@ use Rattle.model.proofs.Answer.{none-holds}
 use Rattle.model.proofs.Tests.{within}
 use Rattle.model.specs.Limits.{unit, mostOrder, mostLast, beyond}
 use Rattle.rows.specs.Layout.{Lent, workPlaces, LongEnough}
-use Rattle.compound.specs.Call.{termLimit, wrongTerm, firstWrongTerm, shorter, tooShort, checks}
 use Rattle.rows.specs.Limits.{Limits}
+use Rattle.compound.specs.Call.{termLimit, wrongTerm, firstWrongTerm, shorter, tooShort, checks}
 
 -- ---- checks 1 to 8
 limit-most : (t : Bool) → cond t 1000 0 ≤ 1000

@@ -14,14 +14,14 @@ use Rattle.model.specs.declared.Job.{Job}
 use Rattle.model.specs.Answer.{Answer, Condition, accepted, refused, isAccepted, condition, firstOf}
 use Rattle.model.specs.Limits.{unit, mostOrder, mostSeverities, mostLast, outside, beyond}
 use Rattle.enclosure.specs.declared.Entry.{Entry}
+use Rattle.rows.specs.Curve.{curveRows}
+use Rattle.rows.specs.Faults.{firstFault, rangeFault}
+use Rattle.rows.specs.Layout.{Lent, workPlaces}
 use Rattle.compound.specs.declared.Reason.{Reason}
 use Rattle.compound.specs.declared.Reason.the-variants.{Order, Divisor, Term, Start as StartReason, Severities, Weights, Last}
 use Rattle.compound.specs.declared.Reason.the-variants.{Places, Range, Bound}
 use Rattle.compound.specs.declared.CurveAnswer.{CurveAnswer}
 use Rattle.compound.specs.declared.CurveAnswer.the-variants.{Accepted, Refused}
-use Rattle.rows.specs.Curve.{curveRows}
-use Rattle.rows.specs.Faults.{firstFault, rangeFault}
-use Rattle.rows.specs.Layout.{Lent, workPlaces}
 
 -- ---- the answer
 abbrev pub numberOf : Reason → ℕ

@@ -19,8 +19,8 @@ ghost use lib.IntN.{pos};
 ghost use Rattle.model.specs.Weights.{totalWeight};
 ghost use Rattle.model.specs.Answer.{isAccepted, firstOf};
 ghost use Rattle.model.specs.Limits.{mostTotals, beyond};
-ghost use Rattle.compound.specs.Call.{termLimit, firstWrongTerm, wrongStart, tooShort, paper, checks};
 ghost use Rattle.rows.specs.Layout.{lentRows};
+ghost use Rattle.compound.specs.Call.{termLimit, firstWrongTerm, wrongStart, tooShort, paper, checks};
 ghost use Rattle.compound.specs.Checked.{refusedBy};
 
 // The largest sum of weights that is told apart: one more than a table may have.

@@ -13,8 +13,8 @@ ghost use lib.IntN.{pos};
 ghost use lib.ListN.{length, replicate};
 ghost use Rattle.algebra.specs.Slice.{written};
 ghost use Rattle.model.specs.Answer.{refused, isAccepted};
-ghost use Rattle.compound.specs.Call.{numberOf, paper, curveAnswer, curveLent};
 ghost use Rattle.rows.specs.Layout.{lentRows};
+ghost use Rattle.compound.specs.Call.{numberOf, paper, curveAnswer, curveLent};
 
 // Why the curve call refuses.
 pub enum Reason {

@@ -60,7 +60,7 @@ fn write_text(sheet: &[u8], text: &[u8])
 fn main() {
     let mut sheet = [0u8; MOST_BYTES + 1];
     let count = read_input(&mut sheet);
-    let mut out = [0u8; report::ROOM];
+    let mut out = [0u8; report::TEXT_BYTES];
     let written = report::report(&sheet[..count], &mut out);
     write_text(&sheet[..count], &out[..written]);
 }

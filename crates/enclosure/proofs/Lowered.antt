@@ -18,10 +18,10 @@ use Rattle.algebra.proofs.Sum.{sum-related, sum-parts, accumulate-next}
 use Rattle.algebra.proofs.Line.{line-before}
 use Rattle.algebra.proofs.Size.{size-add, size-mul, size-fits}
 use Rattle.algebra.proofs.Integer.{integers, signed, split-add, split-size, *ℤ-+ℤ, *ℤ-nonneg}
+use Rattle.model.specs.Limits.{unit}
 use Rattle.enclosure.specs.declared.Entry.{Entry}
 use Rattle.enclosure.specs.declared.term.Factor.{Factor}
 use Rattle.enclosure.specs.declared.raised.Raised.{Raised}
-use Rattle.model.specs.Limits.{unit}
 use Rattle.enclosure.specs.Entry.{none, plus, scaled}
 use Rattle.enclosure.specs.Term.{Small, lineAt, lineFactor}
 use Rattle.enclosure.specs.Run.{AddRoom, RunRoom, RaisedSmall, runSums}

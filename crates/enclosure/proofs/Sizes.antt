@@ -14,11 +14,11 @@ use Rattle.algebra.proofs.Natural.{naturals}
 use Rattle.algebra.proofs.Sum.{accumulate-next, sum-zero, sum-shift, sum-vanishes}
 use Rattle.algebra.proofs.Size.{size-add, size-mul-le, size-fits}
 use Rattle.model.specs.Weights.{totalWeight}
+use Rattle.model.specs.Limits.{unit, mostLast}
 use Rattle.outward.specs.Division.{ceilDiv}
 use Rattle.outward.proofs.Division.{ceil-size}
 use Rattle.enclosure.specs.declared.Entry.{Entry}
 use Rattle.enclosure.specs.declared.term.Factor.{Factor}
-use Rattle.model.specs.Limits.{unit, mostLast}
 use Rattle.enclosure.specs.Entry.{plus, scaled, EntryFits}
 use Rattle.enclosure.specs.Term.{TermRoom, Small, lineAt, lineFactor, termAt, termSums}
 use Rattle.enclosure.specs.Run.{FactorSmall}

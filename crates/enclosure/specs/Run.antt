@@ -8,11 +8,11 @@ use lib.Signed.{_≤ℤ_, _<ℤ_}
 use lib.ListN.{length}
 use Rattle.algebra.specs.Sum.{accumulateBack}
 use Rattle.model.specs.Weights.{totalWeight}
+use Rattle.model.specs.Limits.{unit, mostLast}
 use Rattle.enclosure.specs.declared.Entry.{Entry}
 use Rattle.enclosure.specs.declared.raised.Raised.{Raised}
 use Rattle.enclosure.specs.declared.run.Run.{Run}
 use Rattle.enclosure.specs.declared.term.Factor.{Factor}
-use Rattle.model.specs.Limits.{unit, mostLast}
 use Rattle.enclosure.specs.Entry.{none, plus}
 use Rattle.enclosure.specs.Term.{Small, lineAt, lineFactor, termAt}
 

@@ -10,9 +10,9 @@ ghost use lib.IntN.{pos, natAbs, _+ℤ_};
 ghost use lib.Signed.{_≤ℤ_};
 ghost use mir.Syntax.{w64};
 ghost use mir.Val.{SFits};
+ghost use Rattle.model.specs.Limits.{beyond};
 ghost use Rattle.outward.specs.Division.{ceilDiv};
 ghost use Rattle.enclosure.specs.Entry.{none, plus, minus, rounded, outOfRange, boundTooLarge, EntryFits};
-ghost use Rattle.model.specs.Limits.{beyond};
 
 // The sum of no entries.
 pub fn none() -> Entry

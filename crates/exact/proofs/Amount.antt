@@ -5,10 +5,10 @@ use native.Mathlib.Nat as NL
 use Rattle.algebra.specs.Semiring.{Semiring}
 use Rattle.algebra.proofs.Sum.{sum-cong, sum-scale}
 use Rattle.algebra.specs.Fraction.{Fraction, _⊗_, zeroTo}
+use Rattle.algebra.proofs.Value.{ℚ, value, eq-of-value, value-times, value-zero, value-one, value-oneTo, value-zeroTo}
 use Rattle.exact.specs.Frequency.{Frequency, countCoefficient}
 use Rattle.exact.specs.Severity.{Severity, density, convolution, TermsVanish}
 use Rattle.exact.specs.Amount.{exactAmount, exactRow}
-use Rattle.algebra.proofs.Value.{ℚ, value, eq-of-value, value-times, value-zero, value-one, value-oneTo, value-zeroTo}
 use Rattle.exact.proofs.Convolution.{convolve, power, power-vanishes}
 use Rattle.exact.proofs.Sundt.{row, row-next}
 open Semiring ℚ using (carrier as A, _·_)

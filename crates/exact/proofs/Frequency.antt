@@ -11,8 +11,8 @@ use Rattle.algebra.specs.Sum.{sum}
 use Rattle.algebra.proofs.Semiring.{ring}
 use Rattle.algebra.proofs.Sum.{accumulate-cong, sum-cong, sum-scale}
 use Rattle.algebra.specs.Fraction.{Fraction, whole, _⊕_, _⊗_, overSuc, oneTo}
-use Rattle.exact.specs.Frequency.{Frequency, a, b, withNext, countCoefficients, countCoefficient, CountEquations}
 use Rattle.algebra.proofs.Value.{ℚ, value, value-plus, value-times, value-overSuc, value-oneTo}
+use Rattle.exact.specs.Frequency.{Frequency, a, b, withNext, countCoefficients, countCoefficient, CountEquations}
 use Rattle.exact.proofs.Sundt.{SundtClass}
 
 oneTo-cong : (n : ℕ) {g h : ℕ → Fraction} → ((i : ℕ) → 1 ≤ i → i ≤ n → g i ≡ h i) → oneTo n g ≡ oneTo n h

@@ -6,9 +6,9 @@ use lib.Dec.{lit≤}
 use lib.IntN.{ℤ, pos, negsuc, _*ℤ_}
 use Rattle.algebra.specs.Fraction.{Fraction, over, whole, _≈_}
 use Rattle.algebra.specs.Table.{sameInteger}
+use Rattle.model.specs.Job.{lawOf}
 use Rattle.exact.specs.Frequency.{Frequency}
 use Rattle.exact.specs.Severity.{Severity}
-use Rattle.model.specs.Job.{lawOf}
 use Rattle.exact.specs.Amount.{exactAmount}
 use Rattle.exact.specs.JobAmount.{frequency, severity}
 

@@ -6,7 +6,7 @@ use lines::reason_number;
 use model::limits::MOST_SEVERITIES;
 use sheet::LineAnswer;
 use sheet::reader::read_text;
-use word::first_fault;
+use word::first_faulty;
 ghost use mathlib.Core.Path.{_≡_};
 ghost use Prim.Native.Nat.{_+_};
 ghost use Rattle.fault.specs.Call.{faultyWord, faultyPart};
@@ -29,7 +29,7 @@ pub fn faulty_part(sheet: &[u8], places: usize) -> Part
         LineAnswer::Accepted => Part { start: 0, count: 0 },
         LineAnswer::Refused(reason, line) => {
             if reason_number(reason) == 24 {
-                return first_fault(sheet, line);
+                return first_faulty(sheet, line);
             }
             Part { start: 0, count: 0 }
         }

@@ -51,7 +51,7 @@ fn first_no_number(line: &[u8], signs: bool) -> Part
 }
 
 // The first word on line `n` that is no number there, as a part of the sheet; an empty part at the line's front where each is one.
-pub fn first_fault(sheet: &[u8], n: usize) -> Part
+pub fn first_faulty(sheet: &[u8], n: usize) -> Part
     ensures { λ r. ⌜ r ≡ partAt n (now (sheet .entry)) ⌝ }
 {
     let start = line_start(sheet, n);

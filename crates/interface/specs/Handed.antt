@@ -6,8 +6,8 @@ use lib.ListN.{take}
 use Rattle.model.specs.declared.Job.{Job}
 use Rattle.model.specs.Job.{lawOf, startOf, jobOf}
 use Rattle.model.specs.Answer.{Answer}
-use Rattle.sheet.specs.Call.{Told}
 use Rattle.quantile.specs.Call.{Quantiles}
+use Rattle.sheet.specs.Call.{Told}
 
 -- a call returns the number of its answer, 0 for an acceptance, and the place goes into a lent number
 abbrev pub returned : ℕ → ℕ → Answer

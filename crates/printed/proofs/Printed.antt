@@ -7,17 +7,17 @@ use Prim.Native.Nat.{ℕ, _+_, _≤_}
 use native.Mathlib.Omega.{arith}
 use lib.IntN.{ℤ, pos}
 use lib.ListN.{getD}
+use Rattle.enclosure.specs.declared.Entry.{Entry}
+use Rattle.rows.specs.Layout.{Lent}
+use Rattle.compound.specs.Call.{curveLent}
+use Rattle.accuracy.specs.Accuracy.{Accepted, shown}
+use Rattle.accuracy.proofs.Accuracy.{accepted-divisible, shows-curve, encloses, gap-within-bound, same-bounds}
 use Rattle.text.specs.Bytes.{ascii}
 use Rattle.text.specs.Lines.{has, lineAt, IsLines, spaced}
 use Rattle.text.specs.Numbers.{decimal}
 use Rattle.text.proofs.LineText.{line-text-is-line, line-text-tells}
 use Rattle.sheet.specs.Sheet.{Sheet, sheetText}
 use Rattle.sheet.specs.Accepts.{Writable}
-use Rattle.enclosure.specs.declared.Entry.{Entry}
-use Rattle.rows.specs.Layout.{Lent}
-use Rattle.compound.specs.Call.{curveLent}
-use Rattle.accuracy.specs.Accuracy.{Accepted, shown}
-use Rattle.accuracy.proofs.Accuracy.{accepted-divisible, shows-curve, encloses, gap-within-bound, same-bounds}
 use Rattle.report.specs.Report.{programRows, rowsText, reportText, Table, Refusal}
 use Rattle.report.proofs.Outcome.{table-or-refusal, accepted-has-table}
 use Rattle.printed.specs.Printed.{TrueTable, PrintedIsTrue, EveryAcceptedPrinted, PrintedSameBounds}

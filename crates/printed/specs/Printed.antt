@@ -7,14 +7,14 @@ use Prim.Native.Nat.{ℕ, _+_, _≤_}
 use lib.IntN.{ℤ, pos, _-ℤ_}
 use lib.Signed.{_≤ℤ_}
 use Rattle.algebra.specs.Fraction.{Fraction, whole, _≼_}
+use Rattle.exact.specs.JobAmount.{Divisible, amount}
+use Rattle.rows.specs.Curve.{curveRows}
+use Rattle.accuracy.specs.Accuracy.{Accepted, gap}
 use Rattle.text.specs.Bytes.{ascii}
 use Rattle.text.specs.Lines.{lineAt, IsLines, spaced}
 use Rattle.text.specs.Numbers.{decimal}
 use Rattle.sheet.specs.Sheet.{Sheet, sheetText}
 use Rattle.sheet.specs.Accepts.{Writable}
-use Rattle.exact.specs.JobAmount.{Divisible, amount}
-use Rattle.rows.specs.Curve.{curveRows}
-use Rattle.accuracy.specs.Accuracy.{Accepted, gap}
 use Rattle.report.specs.Report.{programRows, reportText, Refusal}
 
 -- line x + 2 of a text, the heading being line 1: it says what the rule gives at total x, and that is true of the sheet's job

@@ -15,20 +15,20 @@ use Rattle.model.specs.declared.Job.{Job}
 use Rattle.model.specs.Answer.{Answer, accepted, refused, isAccepted}
 use Rattle.model.specs.Limits.{mostSeverities, mostLast, mostTotals}
 use Rattle.model.proofs.Answer.{first-none, by-first}
+use Rattle.enclosure.specs.declared.Entry.{Entry}
+use Rattle.enclosure.specs.Term.{entryOf, Small}
+use Rattle.rows.specs.Layout.{lentRows, workPlaces}
+use Rattle.compound.specs.Call.{tooShort, curveAnswer, curveLent}
+use Rattle.compound.proofs.Accepted.{limits, entry-small}
 use Rattle.text.specs.Lines.{spaced}
 use Rattle.text.specs.Numbers.{decimal}
 use Rattle.text.specs.LineText.{lineText}
 use Rattle.text.proofs.Decimal.{digits-length, decimal-length, decimal-short}
 use Rattle.sheet.specs.Reading.{Reading, reads, refuses, mostBytes, reading}
 use Rattle.sheet.proofs.Taken.{refusal-numbers}
-use Rattle.enclosure.specs.declared.Entry.{Entry}
-use Rattle.enclosure.specs.Term.{entryOf, Small}
-use Rattle.rows.specs.Layout.{lentRows, workPlaces}
-use Rattle.compound.specs.Call.{tooShort, curveAnswer, curveLent}
-use Rattle.compound.proofs.Accepted.{limits, entry-small}
 use Rattle.report.specs.Report.{totalLine, totalLines, refusalLine, zeros, programRows}
 use Rattle.report.specs.Report.{rowsText, curveText, readingText, reportText}
-use Rattle.report.specs.Fits.{WeightsFit, TotalsFit, room, TextFits, inputBytes, InputFits}
+use Rattle.report.specs.Fits.{WeightsFit, TotalsFit, textBytes, TextFits, inputBytes, InputFits}
 
 -- ---- the weights
 pub weights-fit : WeightsFit
@@ -83,13 +83,13 @@ lines-short (suc x) low high bound few small = simp length-append (omega (
   total-short x (entryOf low high bound x) few (small x (omega arith)),
 ))
 
-refusal-short : (answer : Answer) → length (refusalLine answer) ≤ room
+refusal-short : (answer : Answer) → length (refusalLine answer) ≤ textBytes
 unfolding lineText spaced
 refusal-short answer = simp length-append (omega (arith, decimal-short (pos (answer .number)), decimal-short (pos (answer .place))))
 
 module _ (job : Job) (weights : List ℕ) where
   -- an accepted job has at most 501 totals, and its entries are small
-  table-short : curveAnswer job weights programRows ≡ accepted → length (rowsText job (curveLent job weights programRows)) ≤ room
+  table-short : curveAnswer job weights programRows ≡ accepted → length (rowsText job (curveLent job weights programRows)) ≤ textBytes
   table-short ok =
       let rows = curveLent job weights programRows in
       let few : job .last + 1 ≤ mostTotals = omega (arith, limits job weights programRows ok .last-most) in
@@ -98,14 +98,14 @@ module _ (job : Job) (weights : List ℕ) where
         lines-short (job .last + 1) (rows .low) (rows .high) (rows .bound) few (entry-small job weights programRows ok),
       ))
 
-  curve-short : length (curveText job weights) ≤ room
+  curve-short : length (curveText job weights) ≤ textBytes
   unfolding curveText
   curve-short = answers job weights
       (λ a. curveAnswer job weights programRows ≡ a
-      → length (cond (isAccepted a) (rowsText job (curveLent job weights programRows)) (refusalLine a)) ≤ room)
+      → length (cond (isAccepted a) (rowsText job (curveLent job weights programRows)) (refusalLine a)) ≤ textBytes)
       table-short (λ i place _ _. rw (eqb·suc-zero i) (refusal-short (refused (suc i) place))) refl
 
-reading-short : (r : Reading) → length (readingText r) ≤ room
+reading-short : (r : Reading) → length (readingText r) ≤ textBytes
 reading-short (reads sheet) = curve-short (sheet .job) (sheet .weights)
 reading-short (refuses number n) = refusal-short (refused number n)
 

@@ -5,8 +5,8 @@ use Prim.Native.Nat.{ℕ, _+_, _≤_}
 use lib.ListN.{length, take}
 use Rattle.model.specs.declared.Job.{Job}
 use Rattle.model.specs.Limits.{mostSeverities}
-use Rattle.sheet.specs.Reading.{refuses, mostBytes, reading}
 use Rattle.compound.specs.Call.{curveAnswer}
+use Rattle.sheet.specs.Reading.{refuses, mostBytes, reading}
 use Rattle.report.specs.Report.{programRows, reportText}
 
 -- no sheet has more weights than the row lent to the reader has places: 27 does not arise
@@ -18,11 +18,11 @@ abbrev pub TotalsFit : Type 0
 TotalsFit = (job : Job) (weights : List ℕ) → ¬ (curveAnswer job weights programRows .number ≡ 8)
 
 -- the bytes of the output's buffer
-abbrev pub room : ℕ
-room = 20480
+abbrev pub textBytes : ℕ
+textBytes = 20480
 
 abbrev pub TextFits : Type 0
-TextFits = (s : List ℕ) → length (reportText s) ≤ room
+TextFits = (s : List ℕ) → length (reportText s) ≤ textBytes
 
 -- the bytes of the input's buffer, one more than a sheet may have; a longer input is refused for its length, and so are its first bytes
 abbrev pub inputBytes : ℕ

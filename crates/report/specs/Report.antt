@@ -10,14 +10,14 @@ use lib.ListN.{getD, replicate}
 use Rattle.model.specs.declared.Job.{Job}
 use Rattle.model.specs.Answer.{Answer, accepted, refused, isAccepted}
 use Rattle.model.specs.Limits.{mostSeverities, mostTotals}
+use Rattle.rows.specs.Layout.{Lent, lentRows, workPlaces}
+use Rattle.compound.specs.Call.{curveAnswer, curveLent}
 use Rattle.text.specs.Bytes.{ascii}
 use Rattle.text.specs.Numbers.{decimal}
 use Rattle.text.specs.LineText.{lineText}
 use Rattle.sheet.specs.Sheet.{Sheet, sheetText}
 use Rattle.sheet.specs.Reading.{Reading, reads, refuses, reading}
 use Rattle.sheet.specs.Accepts.{Writable}
-use Rattle.rows.specs.Layout.{Lent, lentRows, workPlaces}
-use Rattle.compound.specs.Call.{curveAnswer, curveLent}
 
 -- ---- lines
 abbrev pub totalLine : ℕ → (low high bound : ℤ) → List ℕ

@@ -18,7 +18,7 @@ ghost use Rattle.report.specs.Report.{curveText, reportText};
 const WORK_PLACES: usize = WORK_COLUMNS * MOST_TOTALS;
 
 // Room for every text: a line of a table has at most 40 bytes.
-pub const ROOM: usize = 20_480;
+pub const TEXT_BYTES: usize = 20_480;
 
 // The table of a job's curve, or the line that refuses the job.
 fn put_curve(out: &mut [u8], job: Job, weights: &[u64]) -> usize
@@ -40,7 +40,7 @@ fn put_curve(out: &mut [u8], job: Job, weights: &[u64]) -> usize
 }
 
 // What the program writes on a sheet, put into the first places of `out`; the answer is the number of its bytes.
-pub fn report(sheet: &[u8], out: &mut [u8; ROOM]) -> usize
+pub fn report(sheet: &[u8], out: &mut [u8; TEXT_BYTES]) -> usize
     ensures count { λ r. ⌜ r ≡ length (reportText (now (sheet .entry))) ⌝ }
     ensures bytes { λ r. ⌜ now (out .exit) ≡ written (reportText (now (sheet .entry))) (now (out .entry)) ⌝ }
 {

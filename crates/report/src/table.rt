@@ -6,8 +6,8 @@ use output::put_digits;
 use output::put_next;
 ghost use Prim.Native.Nat.{_≤_};
 ghost use lib.ListN.{length};
-ghost use Rattle.output.specs.Output.{output, Puts};
 ghost use Rattle.model.specs.Answer.{refused};
+ghost use Rattle.output.specs.Output.{output, Puts};
 ghost use Rattle.report.specs.Report.{totalLine, tableText, refusalLine};
 
 fn put_total(out: &mut [u8], at: usize, total: usize, low: i64, high: i64, bound: i64) -> usize

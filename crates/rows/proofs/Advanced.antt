@@ -10,11 +10,11 @@ use lib.Dec.{lit≤}
 use Rattle.algebra.proofs.Sum.{accumulate-zero, accumulate-next}
 use Rattle.model.specs.declared.Job.{Job}
 use Rattle.enclosure.specs.declared.Entry.{Entry}
-use Rattle.rows.specs.declared.fill.Faults.{Faults}
 use Rattle.enclosure.specs.Entry.{outOfRange, boundTooLarge}
+use Rattle.enclosure.specs.Term.{Small}
+use Rattle.rows.specs.declared.fill.Faults.{Faults}
 use Rattle.rows.specs.Curve.{Rows, entryAt}
 use Rattle.rows.specs.Layout.{Lent, workPlaces, Reachable, columnAt, stored, placed}
-use Rattle.enclosure.specs.Term.{Small}
 use Rattle.rows.specs.Progress.{Ready, faultsBelow, RowsKept, Advanced}
 use Rattle.rows.proofs.Kept.{kept-set, rows-untouched, long-kept}
 use Rattle.rows.proofs.Recursion.{entry-local}

@@ -15,19 +15,19 @@ use Rattle.algebra.specs.Smallest.{FailBelow}
 use Rattle.algebra.specs.Sum.{accumulate}
 use Rattle.algebra.proofs.Smallest.{smallest-is, smallest-finds}
 use Rattle.algebra.proofs.Sum.{accumulate-cong}
+use Rattle.algebra.proofs.Or.{or-left, or-right}
 use Rattle.model.specs.declared.Job.{Job}
 use Rattle.model.specs.Limits.{unit}
 use Rattle.enclosure.specs.Entry.{outOfRange, boundTooLarge}
+use Rattle.enclosure.specs.Term.{Small}
 use Rattle.rows.specs.Curve.{Rows, entryAt, curveRows}
 use Rattle.rows.specs.Layout.{Lent, LongEnough, stored}
 use Rattle.rows.specs.Faults.{anyRow, faultAt, firstFault, rangeFault}
-use Rattle.enclosure.specs.Term.{Small}
 use Rattle.rows.specs.Limits.{Limits}
 use Rattle.rows.specs.Fits.{SumsFit}
 use Rattle.rows.specs.Progress.{Ready, faultsBelow, RowsKept, Advanced, Filled, stopOf}
 use Rattle.rows.proofs.Kept.{rows-untouched, rows-further, rows-step, long-kept}
 use Rattle.rows.proofs.Advanced.{same-faults}
-use Rattle.algebra.proofs.Or.{or-left, or-right}
 use Rattle.rows.proofs.Recursion.{curve-rule, entry-local}
 use Rattle.rows.proofs.Nonnegative.{bound-nonneg}
 use Rattle.rows.proofs.Sums.{sums-at-fit}
@@ -73,7 +73,7 @@ module _ (job : Job) (weights : List ℕ) (limits : Limits job weights) where
         bound = size-most (curve j z .bound) unit (bound-nonneg job weights limits z j l) bounded;
       }
 
-  -- ---- the answer
+  -- ---- where the run stops
   first-is : (x : ℕ) → x ≤ places → FailBelow (faultAt order curve) x → (x < places → faultAt order curve x ≡ true)
       → firstFault job weights ≡ x
   unfolding firstFault

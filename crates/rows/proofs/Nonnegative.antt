@@ -4,9 +4,9 @@ use Prim.Native.Nat.{ℕ, zero, suc, _<_}
 use lib.IntN.{ℤ, pos, natAbs, negℤ}
 use lib.Signed.{_≤ℤ_}
 use Rattle.algebra.proofs.Integer.{signed, split-add, split-neg, *ℤ-nonneg}
+use Rattle.model.specs.declared.Job.{Job}
 use Rattle.outward.specs.Division.{ceilDiv}
 use Rattle.outward.proofs.Division.{ceil-nonneg}
-use Rattle.model.specs.declared.Job.{Job}
 use Rattle.enclosure.specs.declared.Entry.{Entry}
 use Rattle.enclosure.specs.Entry.{plus, scaled, allowance, rounded}
 use Rattle.rows.specs.Curve.{firstEntry, curveRows}

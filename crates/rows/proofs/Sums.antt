@@ -12,18 +12,18 @@ use mir.Syntax.{w64}
 use mir.Val.{SFits}
 use Rattle.algebra.proofs.Sum.{accumulate-zero, accumulate-next, accumulate-from, accumulate-cong}
 use Rattle.algebra.proofs.Size.{size-mul-le, size-fits}
-use Rattle.outward.specs.Division.{ceilDiv}
 use Rattle.model.specs.declared.Law.{Law}
 use Rattle.model.specs.Limits.{mostLast}
+use Rattle.outward.specs.Division.{ceilDiv}
 use Rattle.enclosure.specs.declared.Entry.{Entry}
 use Rattle.enclosure.specs.declared.term.Factor.{Factor}
 use Rattle.enclosure.specs.Entry.{none, plus, sumOf, scaled, EntryFits}
-use Rattle.rows.specs.Curve.{Rows, severities, factor, sumsZero, sumsNext, sumsAt}
-use Rattle.rows.specs.Layout.{Lent, Reachable}
 use Rattle.enclosure.specs.Term.{TermRoom, lineFactor, termSums}
-use Rattle.rows.specs.Progress.{Basis, Ready, termFactor, weightAlone}
 use Rattle.enclosure.proofs.Scaled.{plus-assoc, plus-none}
 use Rattle.enclosure.proofs.Sizes.{term-size, quotient-fits}
+use Rattle.rows.specs.Curve.{Rows, severities, factor, sumsZero, sumsNext, sumsAt}
+use Rattle.rows.specs.Layout.{Lent, Reachable}
+use Rattle.rows.specs.Progress.{Basis, Ready, termFactor, weightAlone}
 
 -- a further row is a term whose factor is the weight
 pub next-is : (weights : List ℕ) (x : ℕ) (rows : Rows) (j : ℕ)
@@ -114,7 +114,8 @@ module _ (law : Law) (weights : List ℕ) (x : ℕ) where
     term-room-of i l s =
         let limits = basis .law-limits in
         let i-most : i ≤ 3 = omega (arith, limits .order-most) in
-        room (lawFactor i) (size-mul-le (getD (law .a) i (pos 0)) (pos x) 1000 mostLast (limits .a-small i (omega arith)) (basis .total-most))
+        let a = getD (law .a) i (pos 0) in
+        room (lawFactor i) (size-mul-le a (pos x) 1000 mostLast (limits .a-small i (omega arith)) (basis .total-most))
         (limits .b-small i (omega arith)) (below i) i i-most s i l
 
     terms-size : (n : ℕ) → n ≤ law .order → Size (below n) n

@@ -1,5 +1,5 @@
--- Faults: "9: at the smallest x that has a fault, a low or high of any row lies outside -2U to 2U. 10: at that x none does, but a bound of any
--- row is above U."
+-- Faults: "9: at the smallest x that has a fault, a low or high of any row lies outside -2U to 2U. 10: at that x none does, but a bound of
+-- any row is above U."
 use mathlib.Core.Bool.{Bool, false, _&&_, _||_}
 use mathlib.Core.List.{List}
 use Prim.Native.Nat.{ℕ, _+_}

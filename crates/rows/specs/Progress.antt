@@ -8,10 +8,10 @@ use Rattle.model.specs.declared.Job.{Job}
 use Rattle.model.specs.declared.Law.{Law}
 use Rattle.model.specs.Limits.{mostLast, mostTotals}
 use Rattle.enclosure.specs.declared.term.Factor.{Factor}
-use Rattle.rows.specs.declared.fill.Faults.{Faults}
-use Rattle.rows.specs.declared.fill.Stop.{Stop}
 use Rattle.enclosure.specs.Entry.{outOfRange, boundTooLarge}
 use Rattle.enclosure.specs.Term.{Small}
+use Rattle.rows.specs.declared.fill.Faults.{Faults}
+use Rattle.rows.specs.declared.fill.Stop.{Stop}
 use Rattle.rows.specs.Curve.{Rows, entryAt, curveRows}
 use Rattle.rows.specs.Faults.{anyRow, firstFault, rangeFault}
 use Rattle.rows.specs.Layout.{Lent, workPlaces, stored, LongEnough}

@@ -7,8 +7,8 @@ ghost use mathlib.Core.Path.{_≡_};
 ghost use Prim.Native.Nat.{_-_, _≤_, _<_};
 ghost use lib.ListN.{length, set};
 ghost use Rattle.model.specs.Limits.{mostTotals};
-ghost use Rattle.rows.specs.Layout.{lentRows, workPlaces, Reachable, columnAt, columnOf, stored, putColumns, placed};
 ghost use Rattle.enclosure.specs.Term.{TermRoom, lineFactor, termSums};
+ghost use Rattle.rows.specs.Layout.{lentRows, workPlaces, Reachable, columnAt, columnOf, stored, putColumns, placed};
 
 // Low, high and bound.
 const COLUMNS: usize = 3;

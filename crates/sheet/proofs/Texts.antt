@@ -11,6 +11,7 @@ use lib.IntN.{ℤ, pos}
 use lib.ListN.{length, getD, set, replicate, length-append}
 use Rattle.model.specs.declared.Law.{Law}
 use Rattle.model.specs.declared.Job.{Job}
+use Rattle.model.specs.Job.{lawOf}
 use Rattle.model.specs.Limits.{mostOrder, mostSeverities}
 use Rattle.model.proofs.Tests.{inside}
 use Rattle.text.specs.Lines.{has}
@@ -50,7 +51,7 @@ all-terms (suc order) (z ∷ terms) past = ap (λ (l : List ℤ). z ∷ l) (all-
 
 -- the law after i terms
 abbrev known : Law → ℕ → Law
-known law i = record { order = law .order; divisor = law .divisor; a = firstTerms i (law .a); b = firstTerms i (law .b) }
+known law i = lawOf (law .order) (law .divisor) (firstTerms i (law .a)) (firstTerms i (law .b))
 
 -- ---- the lines of terms: from term i + 1 on, and all of them
 module _ (law : Law) (a : Terms (law .order) (law .a)) (b : Terms (law .order) (law .b)) where

@@ -1,5 +1,6 @@
 // The sheet, line by line: each function reads the line due and goes on with the next. The weights are written as they are read, before the
-// last line is known to be good, so the row may hold anything after a refusal. Line numbers are bounded by the order, which has a limit.
+// last line is known to be good, so the row may hold anything after a refusal, and behind the weights after an acceptance. Line numbers are
+// bounded by the order, which has a limit.
 
 use super::LineAnswer;
 use super::MOST_BYTES;
@@ -189,7 +190,7 @@ fn read_law(rest: &[u8], places: usize, weights: &mut [u64]) -> SheetRead
     }
 }
 
-// What a sheet says to a row of `places` places; `weights` may hold anything after a refusal.
+// What a sheet says to a row of `places` places; what `weights` holds behind the weights, and after a refusal, is not said.
 pub fn read_text(sheet: &[u8], places: usize, weights: &mut [u64]) -> SheetRead
     requires { ⌜ mostSeverities ≤ length (now weights) ⌝ }
     ensures { λ r. ⌜ paper r (now (weights .exit)) ≡ told (reading places (now (sheet .entry))) ⌝ }

@@ -10,11 +10,11 @@ use Rattle.model.specs.declared.Job.{Job}
 use Rattle.model.specs.Answer.{accepted, refused, isAccepted, firstOf}
 use Rattle.rows.specs.declared.fill.Stop.{Stop}
 use Rattle.rows.specs.Layout.{Lent, lentRows, LongEnough}
-use Rattle.compound.specs.Call.{paper, checks}
 use Rattle.rows.specs.Limits.{Limits}
 use Rattle.rows.specs.Progress.{Filled}
-use Rattle.compound.proofs.Call.{checked-limits}
 use Rattle.rows.proofs.Kept.{long-kept}
+use Rattle.compound.specs.Call.{paper, checks}
+use Rattle.compound.proofs.Call.{checked-limits}
 use Rattle.compound.proofs.Returned.{accepted-paper, early-answer, early-rows, fault-answer, fault-rows, end-answer, end-rows}
 use Rattle.compound.proofs.curve.Statement.{statement}
 use Rattle.compound.proofs.curve.Tie as tie

@@ -50,7 +50,7 @@ module _ (c : tie.After-reason-number) where
       (ap (λ (n : ℕ). eqb n 24) (sym (c .reason-number .ensures)) ∙ e)
 
 returns : tie.Need-returns
-returns c = c .first-fault .ensures ∙ sym (by-number (c .before .before) true (eq-eqb _ 24 (c .before .if1 .taken)))
+returns c = c .first-faulty .ensures ∙ sym (by-number (c .before .before) true (eq-eqb _ 24 (c .before .if1 .taken)))
 
 returns-2 : tie.Need-returns-2
 returns-2 c = sym (part-by (c .before .before .before) _ (c .enum-told .given .1))

@@ -9,8 +9,8 @@ use lib.Dec.{eqb}
 use Rattle.model.specs.declared.Job.{Job}
 use Rattle.model.specs.Answer.{accepted, refused}
 use Rattle.model.specs.Limits.{mostLast}
-use Rattle.compound.specs.declared.CurveAnswer.{CurveAnswer}
 use Rattle.rows.specs.Layout.{Lent}
+use Rattle.compound.specs.declared.CurveAnswer.{CurveAnswer}
 use Rattle.compound.specs.Call.{numberOf, paper, curveAnswer, curveLent}
 use Rattle.compound.proofs.Returned.{reason-refuses}
 use Rattle.compound.proofs.Accepted.{limits}

@@ -19,7 +19,7 @@ use Rattle.sheet.specs.Reading.{Reading, reads, refuses, reading}
 use Rattle.sheet.specs.Call.{Told, answerOf, paper, told}
 use Rattle.sheet.proofs.Taken.{counted, refusal-numbers}
 use Rattle.report.specs.Report.{refusalLine, curveText, readingText, reportText}
-use Rattle.report.specs.Fits.{room}
+use Rattle.report.specs.Fits.{textBytes}
 use Rattle.report.proofs.Fits.{text-fits}
 use Rattle.report.proofs.report.Statement.{statement}
 use Rattle.report.proofs.report.Tie as tie
@@ -51,7 +51,7 @@ refused-text (reads sheet) reason n a = absurd (not-none reason (ap (λ (x : Ans
 refused-text (refuses number line) reason n a = ap refusalLine (sym a)
 
 -- ---- the answer and the buffer
-in-buffer : (s row row' : List ℕ) (r : ℕ) → length row ≡ room → Puts (reportText s) (output row 0) (output row' r)
+in-buffer : (s row row' : List ℕ) (r : ℕ) → length row ≡ textBytes → Puts (reportText s) (output row 0) (output row' r)
     → (r ≡ length (reportText s)) × (row' ≡ written (reportText s) row)
 in-buffer s row row' r h p =
     let e = p .is ∙ put-whole row (reportText s) (omega (arith, text-fits s)) in

@@ -7,8 +7,8 @@ use mir.Syntax.{w64}
 use mir.Val.{SFits}
 use mir.Facts.{toZ-pos}
 use Rattle.algebra.proofs.Size.{size-sub, size-fits}
-use Rattle.enclosure.specs.declared.raised.Raised.{Raised}
 use Rattle.model.specs.Limits.{unit}
+use Rattle.enclosure.specs.declared.raised.Raised.{Raised}
 use Rattle.enclosure.specs.Entry.{EntryFits}
 use Rattle.enclosure.specs.Run.{RaisedSmall, lowered}
 use Rattle.enclosure.proofs.Scaled.{same-entry}

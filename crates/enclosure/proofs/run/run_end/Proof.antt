@@ -69,7 +69,9 @@ cast-further : tie.Need-cast-further
 cast-further c = rw (line-is c) (yes-nonNeg (start c .pre .2), record { fits = omega (arith, line-small c) })
 
 sub-further : tie.Need-sub-further
-sub-further c = let s = start (c .before .before) in negative-local-fits w64 (s .args .factor .slope) (omega (arith, s .pre .0 .slope-small))
+sub-further c =
+    let s = start (c .before .before) in
+    negative-local-fits w64 (s .args .factor .slope) (omega (arith, s .pre .0 .slope-small))
 
 cast-further-2 : tie.Need-cast-further-2
 cast-further-2 c =

@@ -1,5 +1,5 @@
--- The three cases of the rule are the code's three ways: at total 0 the start, later the sums of row 0, or those of the term whose factor is
--- the weight, divided.
+-- The three cases of the rule are the code's three ways: at total 0 the start, later the sums of row 0, or those of the term whose factor
+-- is the weight, divided.
 use borrow.Author.Needs.{needs}
 use mathlib.Core.Path.{_≡_, sym, _∙_, ap, ap₂}
 use Prim.Native.Nat.{ℕ, suc, _-_, _<_}
@@ -65,8 +65,8 @@ add-row-requires c κs =
 
 -- its sums are those of the definition
 sums-are : (c : tie.After-add-row) → let a = c .before .before .before .before .before .args in
-    c .add-row .result ≡ sumsNext (a .weights .now) (stored (a .places) (lentRows (a .low .now) (a .high .now) (a .bound .now) (a .work .now)))
-    (a .row - 1) (a .x)
+    let lent = lentRows (a .low .now) (a .high .now) (a .bound .now) (a .work .now) in
+    c .add-row .result ≡ sumsNext (a .weights .now) (stored (a .places) lent) (a .row - 1) (a .x)
 sums-are c =
     let a = c .before .before .before .before .before .args in
     rw (c .before .none .ensures) at (c .add-row .ensures) ∙ next-is (a .weights .now) (a .x) _ (a .row - 1)

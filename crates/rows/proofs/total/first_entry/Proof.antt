@@ -7,8 +7,8 @@ use mir.Syntax.{w64}
 use mir.Val.{SFits, toZ}
 use mir.Facts.{toZ-ofZ, toZ-pos}
 use Rattle.algebra.proofs.Size.{size-sub, size-fits}
-use Rattle.rows.specs.Curve.{firstEntry}
 use Rattle.enclosure.proofs.Scaled.{same-entry}
+use Rattle.rows.specs.Curve.{firstEntry}
 use Rattle.rows.proofs.Recursion.{suc-pred}
 use Rattle.rows.proofs.total.first_entry.Statement.{statement}
 use Rattle.rows.proofs.total.first_entry.Tie as tie

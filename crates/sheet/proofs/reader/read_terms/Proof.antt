@@ -6,18 +6,13 @@ use mathlib.Core.List.{List, [], _∷_}
 use Prim.Native.Nat.{ℕ, _-_, _≤_}
 use native.Mathlib.Nat.{sub-zero}
 use native.Mathlib.Omega.{arith}
-use lib.IntN.{ℤ}
-use Rattle.model.specs.declared.Law.{Law}
+use Rattle.model.specs.Job.{lawOf}
 use Rattle.lines.specs.Keywords.{TERM}
 use Rattle.lines.proofs.GoodLine.{GoodLine, good-two, faulty-two}
 use Rattle.sheet.specs.Reading.{noTerms, termLines}
 use Rattle.sheet.proofs.Steps.{term-good, term-faulty, terms-end}
 use Rattle.sheet.proofs.reader.read_terms.Statement.{statement}
 use Rattle.sheet.proofs.reader.read_terms.Tie as tie
-
--- the law, with the terms so far
-abbrev lawOf : ℕ → ℕ → List ℤ → List ℤ → Law
-lawOf order divisor a b = record { order = order; divisor = divisor; a = a; b = b }
 
 abbrev Inv-loop : tie.InvT-loop
 Inv-loop rest places order divisor weights a₀ b₀ left₀ count i₀ bytes a b left i =

@@ -15,8 +15,8 @@ use Rattle.lines.specs.Line.{keywordOf, numberWords}
 use Rattle.fault.specs.declared.Part.{Part}
 use Rattle.fault.specs.Call.{firstPart, partOn, from, partAt}
 use Rattle.fault.proofs.Located.{in-sheet}
-use Rattle.fault.proofs.word.first_fault.Statement.{statement}
-use Rattle.fault.proofs.word.first_fault.Tie as tie
+use Rattle.fault.proofs.word.first_faulty.Statement.{statement}
+use Rattle.fault.proofs.word.first_faulty.Tie as tie
 
 -- what the text from the line's start on is
 module _ (c : tie.After-until) where
@@ -59,8 +59,8 @@ module _ (c : tie.After-first-no-number) where
   fits : start found + c .first-no-number .result .start ≤ length (sheet found)
   fits = omega (arith, in-sheet (n found) (sheet found) .within, ap (λ (p : Part). p .start) part-is)
 
-pub first-fault-spec : {M : Type 1} → statement M
-first-fault-spec =
+pub first-faulty-spec : {M : Type 1} → statement M
+first-faulty-spec =
     tie.close
     (tie.spec
     (λ c κs. search needs)
