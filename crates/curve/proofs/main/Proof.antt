@@ -17,7 +17,8 @@ use Rattle.curve.proofs.main.Tie as tie
 in-front : (text row row' : List ℕ) (r : ℕ) → r ≡ length text → row' ≡ written text row → take r row' ≡ text
 in-front text row row' r n e = rw (n, e) (take-append-seam text (drop (length text) row))
 
-within : (s row row' : List ℕ) (r : ℕ) → length row ≡ textBytes → r ≡ length (reportText s) → row' ≡ written (reportText s) row → r ≤ length row'
+within : (s row row' : List ℕ) (r : ℕ) → length row ≡ textBytes → r ≡ length (reportText s) → row' ≡ written (reportText s) row
+    → r ≤ length row'
 within s row row' r h n e = rw (n, e, written-length (reportText s) row (rw h (text-fits s)), h) (text-fits s)
 
 read-input-requires : tie.Need-read-input-requires
