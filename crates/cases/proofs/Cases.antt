@@ -26,7 +26,7 @@ use Rattle.text.specs.Lines.{before, after, has, afterLines, longer, words, spa
 use Rattle.text.specs.Numbers.{valueFrom, number, digitsWithin, decimal}
 use Rattle.text.specs.LineText.{lineText}
 use Rattle.lines.specs.Line.{allNumbers, line}
-use Rattle.sheet.specs.Reading.{weightLines, severityLine, lastLine, startLine, termLines, lawLine, reading}
+use Rattle.grammar.specs.Reading.{weightLines, severityLine, lastLine, startLine, termLines, lawLine, reading}
 use Rattle.sheet.specs.Call.{Told, told, rowOnReturn}
 use Rattle.fault.specs.declared.Part.{Part}
 use Rattle.fault.specs.Call.{firstNoNumber, faultyWord, partOf, firstPart, faultyPart}

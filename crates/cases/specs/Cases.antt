@@ -18,7 +18,7 @@ use Rattle.rows.specs.Layout.{Lent, lentRows}
 use Rattle.compound.specs.Call.{curveAnswer, curveLent}
 use Rattle.quantile.specs.Call.{Quantiles, quantiles}
 use Rattle.text.specs.Bytes.{ascii}
-use Rattle.sheet.specs.Reading.{reading}
+use Rattle.grammar.specs.Reading.{reading}
 use Rattle.sheet.specs.Call.{Told, told, rowOnReturn}
 use Rattle.fault.specs.declared.Part.{Part}
 use Rattle.fault.specs.Call.{faultyWord, partOf, faultyPart}

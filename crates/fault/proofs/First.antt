@@ -9,7 +9,7 @@ use lib.IntN.{ℤ}
 use Rattle.text.specs.Lines.{lineAt}
 use Rattle.text.specs.Numbers.{number}
 use Rattle.lines.specs.Line.{both, allNumbers, numberWords, signsOn}
-use Rattle.sheet.proofs.Taken.{names-faulty-line}
+use Rattle.grammar.proofs.Taken.{names-faulty-line}
 use Rattle.fault.specs.Call.{isNone, firstNoNumber}
 use Rattle.fault.specs.First.{FirstFaulty, HandsBackFirstFaulty}
 

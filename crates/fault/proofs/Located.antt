@@ -15,7 +15,7 @@ use Rattle.text.specs.Numbers.{number}
 use Rattle.text.proofs.Scan.{before-take, line-starts, words-split}
 use Rattle.text.proofs.Words.{words-joined}
 use Rattle.lines.specs.Line.{both, allNumbers, keywordOf, numberWords, signsOn}
-use Rattle.sheet.specs.Reading.{Reading, reads, refuses, reading}
+use Rattle.grammar.specs.Reading.{Reading, reads, refuses, reading}
 use Rattle.fault.specs.declared.Part.{Part}
 use Rattle.fault.specs.Call.{isNone, firstNoNumber, faultOn, wordOf, faultyWord}
 use Rattle.fault.specs.Call.{partOf, noPart, firstPart, partOn, from, partAt, partIn}

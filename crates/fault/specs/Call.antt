@@ -9,7 +9,7 @@ use lib.ListN.{length, take, drop}
 use Rattle.text.specs.Lines.{lineAt, lineStart}
 use Rattle.text.specs.Numbers.{number}
 use Rattle.lines.specs.Line.{keywordOf, numberWords, signsOn}
-use Rattle.sheet.specs.Reading.{Reading, reads, refuses, reading}
+use Rattle.grammar.specs.Reading.{Reading, reads, refuses, reading}
 use Rattle.fault.specs.declared.Part.{Part}
 
 -- ---- the word

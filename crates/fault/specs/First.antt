@@ -9,7 +9,7 @@ use lib.ListN.{length}
 use Rattle.text.specs.Lines.{lineAt, lineStart, spaced}
 use Rattle.text.specs.Numbers.{number}
 use Rattle.lines.specs.Line.{allNumbers, keywordOf, numberWords, signsOn}
-use Rattle.sheet.specs.Reading.{refuses, reading}
+use Rattle.grammar.specs.Reading.{refuses, reading}
 use Rattle.fault.specs.declared.Part.{Part}
 use Rattle.fault.specs.Call.{faultyWord, bytesOf, faultyPart}
 

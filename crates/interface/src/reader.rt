@@ -6,7 +6,7 @@ use sheet::LineAnswer;
 use sheet::read_sheet;
 ghost use mathlib.Core.Path.{_≡_};
 ghost use lib.ListN.{length};
-ghost use Rattle.sheet.specs.Reading.{reading};
+ghost use Rattle.grammar.specs.Reading.{reading};
 ghost use Rattle.sheet.specs.Call.{answerOf, told, rowOnReturn};
 ghost use Rattle.fault.specs.Call.{partOf, faultyPart};
 ghost use Rattle.interface.specs.Handed.{returned, jobOfNumbers, tells};

@@ -16,8 +16,8 @@ use Rattle.text.specs.Bytes.{ascii}
 use Rattle.text.specs.Lines.{has, lineAt, IsLines, spaced}
 use Rattle.text.specs.Numbers.{decimal}
 use Rattle.text.proofs.LineText.{line-text-is-line, line-text-tells}
-use Rattle.sheet.specs.Sheet.{Sheet, sheetText}
-use Rattle.sheet.specs.Accepts.{Writable}
+use Rattle.grammar.specs.Sheet.{Sheet, sheetText}
+use Rattle.grammar.specs.Accepts.{Writable}
 use Rattle.report.specs.Report.{programRows, rowsText, reportText, Table, Refusal}
 use Rattle.report.proofs.Outcome.{table-or-refusal, accepted-has-table}
 use Rattle.printed.specs.Printed.{TrueTable, PrintedIsTrue, EveryAcceptedPrinted, PrintedSameBounds}

@@ -13,8 +13,8 @@ use Rattle.accuracy.specs.Accuracy.{Accepted, gap}
 use Rattle.text.specs.Bytes.{ascii}
 use Rattle.text.specs.Lines.{lineAt, IsLines, spaced}
 use Rattle.text.specs.Numbers.{decimal}
-use Rattle.sheet.specs.Sheet.{Sheet, sheetText}
-use Rattle.sheet.specs.Accepts.{Writable}
+use Rattle.grammar.specs.Sheet.{Sheet, sheetText}
+use Rattle.grammar.specs.Accepts.{Writable}
 use Rattle.report.specs.Report.{programRows, reportText, Refusal}
 
 -- line x + 2 of a text, the heading being line 1: it says what the rule gives at total x, and that is true of the sheet's job

@@ -11,12 +11,11 @@ use Rattle.model.specs.declared.Job.{Job}
 use Rattle.model.specs.Answer.{Answer, accepted, refused, isAccepted}
 use Rattle.model.specs.Limits.{mostSeverities}
 use Rattle.compound.specs.Call.{curveAnswer}
-use Rattle.sheet.specs.Sheet.{Sheet}
-use Rattle.sheet.specs.Reading.{Reading, reads, refuses, reading}
-use Rattle.sheet.proofs.Taken.{takes-only-texts, refusal-numbers}
-use Rattle.sheet.proofs.Texts.{takes-all-texts}
-use Rattle.report.specs.Report.{programRows, curveText, reportText}
-use Rattle.report.specs.Report.{Table, Refusal, TableOrRefusal, AcceptedHasTable}
+use Rattle.grammar.specs.Sheet.{Sheet}
+use Rattle.grammar.specs.Reading.{Reading, reads, refuses, reading}
+use Rattle.grammar.proofs.Taken.{takes-only-texts, refusal-numbers}
+use Rattle.grammar.proofs.Texts.{takes-all-texts}
+use Rattle.report.specs.Report.{programRows, curveText, reportText, Table, Refusal, TableOrRefusal, AcceptedHasTable}
 use Rattle.report.proofs.Fits.{answers}
 
 abbrev Decided : Answer → Type 0

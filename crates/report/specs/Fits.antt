@@ -6,7 +6,7 @@ use lib.ListN.{length, take}
 use Rattle.model.specs.declared.Job.{Job}
 use Rattle.model.specs.Limits.{mostSeverities}
 use Rattle.compound.specs.Call.{curveAnswer}
-use Rattle.sheet.specs.Reading.{refuses, mostBytes, reading}
+use Rattle.grammar.specs.Reading.{refuses, mostBytes, reading}
 use Rattle.report.specs.Report.{programRows, reportText}
 
 -- no sheet has more weights than the row lent to the reader has places: 27 does not arise

@@ -15,9 +15,9 @@ use Rattle.compound.specs.Call.{curveAnswer, curveLent}
 use Rattle.text.specs.Bytes.{ascii}
 use Rattle.text.specs.Numbers.{decimal}
 use Rattle.text.specs.LineText.{lineText}
-use Rattle.sheet.specs.Sheet.{Sheet, sheetText}
-use Rattle.sheet.specs.Reading.{Reading, reads, refuses, reading}
-use Rattle.sheet.specs.Accepts.{Writable}
+use Rattle.grammar.specs.Sheet.{Sheet, sheetText}
+use Rattle.grammar.specs.Reading.{Reading, reads, refuses, reading}
+use Rattle.grammar.specs.Accepts.{Writable}
 
 -- ---- lines
 abbrev pub totalLine : ℕ → (low high bound : ℤ) → List ℕ

@@ -1,4 +1,3 @@
--- Bottom up: what a file cites stands above it.
-pub mod Taken
-pub mod Texts
+-- Proofs that the functions share: the definition's lines as the code meets them, and how many weights are told.
 pub mod Steps
+pub mod Counted

@@ -13,7 +13,7 @@ use Rattle.model.specs.declared.Job.{Job}
 use Rattle.text.proofs.Scan.{one-fewer}
 use Rattle.lines.specs.Keywords.{TERM, W}
 use Rattle.lines.specs.Line.{numbers, faulty, line}
-use Rattle.sheet.specs.Reading.{Reading, reads, refuses, sheetOf, withTerm, weightLines, startLine, termLines}
+use Rattle.grammar.specs.Reading.{Reading, reads, refuses, sheetOf, withTerm, weightLines, startLine, termLines}
 
 -- ---- lines `W w`
 -- what s gives where i of the lines are read, the first of them line n, and the first i places of the row hold their weights

@@ -10,7 +10,7 @@ ghost use mathlib.Core.Path.{_≡_};
 ghost use Prim.Native.Nat.{_≤_};
 ghost use lib.ListN.{length};
 ghost use Rattle.algebra.specs.Slice.{written};
-ghost use Rattle.sheet.specs.Reading.{reading};
+ghost use Rattle.grammar.specs.Reading.{reading};
 ghost use Rattle.sheet.specs.Call.{paper, told, rowOnReturn};
 
 // The most bytes that a sheet may have.

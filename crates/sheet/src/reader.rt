@@ -29,7 +29,7 @@ ghost use Prim.Native.Nat.{ℕ, _+_, _≤_};
 ghost use lib.ListN.{length};
 ghost use Rattle.model.specs.Limits.{mostOrder, mostSeverities};
 ghost use Rattle.lines.specs.Reason.{numberOf};
-ghost use Rattle.sheet.specs.Reading.{refuses, noTerms, weightLines, severityLine, lastLine, startLine, termLines, lawLine, reading};
+ghost use Rattle.grammar.specs.Reading.{refuses, noTerms, weightLines, severityLine, lastLine, startLine, termLines, lawLine, reading};
 ghost use Rattle.sheet.specs.Call.{paper, told};
 
 // A refusal: its other numbers are 0.

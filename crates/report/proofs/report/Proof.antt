@@ -15,9 +15,10 @@ use Rattle.lines.specs.declared.Reason.{Reason}
 use Rattle.lines.specs.declared.Reason.the-variants.{Size, Missing, Form, Word, Limit, Excess, Places}
 use Rattle.lines.specs.Reason.{numberOf}
 use Rattle.sheet.specs.declared.LineAnswer.{LineAnswer}
-use Rattle.sheet.specs.Reading.{Reading, reads, refuses, reading}
+use Rattle.grammar.specs.Reading.{Reading, reads, refuses, reading}
 use Rattle.sheet.specs.Call.{Told, answerOf, paper, told}
-use Rattle.sheet.proofs.Taken.{counted, refusal-numbers}
+use Rattle.sheet.proofs.Counted.{counted}
+use Rattle.grammar.proofs.Taken.{refusal-numbers}
 use Rattle.report.specs.Report.{refusalLine, curveText, readingText, reportText}
 use Rattle.report.specs.Fits.{textBytes}
 use Rattle.report.proofs.Fits.{text-fits}

@@ -6,7 +6,7 @@ use Prim.Native.Nat.{ℕ}
 use lib.IntN.{pos}
 use Rattle.lines.specs.Keywords.{LAST}
 use Rattle.lines.proofs.GoodLine.{GoodLine, good-one, faulty-one}
-use Rattle.sheet.specs.Reading.{lastLine}
+use Rattle.grammar.specs.Reading.{lastLine}
 use Rattle.sheet.proofs.reader.read_last.Statement.{statement}
 use Rattle.sheet.proofs.reader.read_last.Tie as tie
 

@@ -9,7 +9,7 @@ use Rattle.model.specs.Limits.{mostOrder, outside}
 use Rattle.model.proofs.Tests.{within}
 use Rattle.lines.specs.Keywords.{LAW}
 use Rattle.lines.proofs.GoodLine.{GoodLine, good-two, faulty-two}
-use Rattle.sheet.specs.Reading.{lawLine}
+use Rattle.grammar.specs.Reading.{lawLine}
 use Rattle.sheet.proofs.reader.read_law.Statement.{statement}
 use Rattle.sheet.proofs.reader.read_law.Tie as tie
 

@@ -11,7 +11,7 @@ use Rattle.model.specs.Limits.{mostSeverities, outside}
 use Rattle.model.proofs.Tests.{within}
 use Rattle.lines.specs.Keywords.{SEVERITY}
 use Rattle.lines.proofs.GoodLine.{GoodLine, good-one, faulty-one}
-use Rattle.sheet.specs.Reading.{severityLine}
+use Rattle.grammar.specs.Reading.{severityLine}
 use Rattle.sheet.proofs.reader.read_severity.Statement.{statement}
 use Rattle.sheet.proofs.reader.read_severity.Tie as tie
 

@@ -7,7 +7,7 @@ use Prim.Native.Nat.{ℕ}
 use lib.IntN.{natAbs}
 use Rattle.lines.specs.Keywords.{START}
 use Rattle.lines.proofs.GoodLine.{GoodLine, good-two, faulty-two}
-use Rattle.sheet.specs.Reading.{startLine}
+use Rattle.grammar.specs.Reading.{startLine}
 use Rattle.sheet.proofs.reader.read_start.Statement.{statement}
 use Rattle.sheet.proofs.reader.read_start.Tie as tie
 

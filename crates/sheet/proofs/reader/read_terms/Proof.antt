@@ -9,7 +9,7 @@ use native.Mathlib.Omega.{arith}
 use Rattle.model.specs.Job.{lawOf}
 use Rattle.lines.specs.Keywords.{TERM}
 use Rattle.lines.proofs.GoodLine.{GoodLine, good-two, faulty-two}
-use Rattle.sheet.specs.Reading.{noTerms, termLines}
+use Rattle.grammar.specs.Reading.{noTerms, termLines}
 use Rattle.sheet.proofs.Steps.{term-good, term-faulty, terms-end}
 use Rattle.sheet.proofs.reader.read_terms.Statement.{statement}
 use Rattle.sheet.proofs.reader.read_terms.Tie as tie

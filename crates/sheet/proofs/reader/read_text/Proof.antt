@@ -4,7 +4,7 @@ use mathlib.Core.Path.{_≡_, sym, _∙_}
 use mathlib.Core.Bool.{Bool, true, false}
 use lib.ListN.{length}
 use Rattle.model.specs.Limits.{outside}
-use Rattle.sheet.specs.Reading.{mostBytes, reading}
+use Rattle.grammar.specs.Reading.{mostBytes, reading}
 use Rattle.sheet.proofs.reader.read_text.Statement.{statement}
 use Rattle.sheet.proofs.reader.read_text.Tie as tie
 

@@ -14,7 +14,7 @@ use Rattle.model.specs.Job.{lawOf, startOf, jobOf}
 use Rattle.model.specs.Limits.{mostOrder, mostSeverities, outside}
 use Rattle.lines.specs.Keywords.{LAW, TERM, START, LAST, SEVERITY, W}
 use Rattle.lines.specs.Line.{Line, numbers, faulty, line, signed, natural}
-use Rattle.sheet.specs.Sheet.{Sheet}
+use Rattle.grammar.specs.Sheet.{Sheet}
 
 -- what a sheet gives: its numbers, or the number of a refusal and its line
 pub data Reading : Type 0 where

@@ -4,7 +4,7 @@ use mathlib.Core.Path.{_≡_, refl, sym, ap, subst, subst₂, _∙_}
 use mathlib.Core.Bool.{Bool, true, false, cond}
 use mathlib.Core.List.{List, [], _∷_, _++_, append-assoc, append-nil}
 use mathlib.Core.Option.{none}
-use Prim.Native.Nat.{ℕ, zero, suc, _+_, _-_, _≤_, _<_, zero-le}
+use Prim.Native.Nat.{ℕ, zero, suc, _+_, _-_, _≤_, _<_}
 use native.Mathlib.Decide.{ℕ-discrete}
 use native.Mathlib.Numerals.{add-one}
 use native.Mathlib.Omega.{arith}
@@ -28,11 +28,10 @@ use Rattle.text.proofs.Scan.{lines-last}
 use Rattle.lines.specs.Keywords.{LAW, TERM, START, LAST, SEVERITY, W}
 use Rattle.lines.specs.Line.{Line, numbers, faulty, allNumbers, line, signed, natural, numberWords, signsOn}
 use Rattle.lines.proofs.LineParsed.{Parsed, LineFacts, line-facts, pair, one-natural, two-natural}
-use Rattle.sheet.specs.Sheet.{termsText, weightsText, sheetText}
-use Rattle.sheet.specs.Reading.{Reading, reads, refuses, on, noTerms, withTerm, sheetOf}
-use Rattle.sheet.specs.Reading.{weightLines, severityLine, lastLine, startLine, termLines, lawLine, mostBytes, reading}
-use Rattle.sheet.specs.Call.{told}
-use Rattle.sheet.specs.Accepts.{Terms, Writable, TakesOnlyTexts, RefusalNumbers, NamesFaultyLine}
+use Rattle.grammar.specs.Sheet.{termsText, weightsText, sheetText}
+use Rattle.grammar.specs.Reading.{Reading, reads, refuses, on, noTerms, withTerm, sheetOf}
+use Rattle.grammar.specs.Reading.{weightLines, severityLine, lastLine, startLine, termLines, lawLine, mostBytes, reading}
+use Rattle.grammar.specs.Accepts.{Terms, Writable, TakesOnlyTexts, RefusalNumbers, NamesFaultyLine}
 
 -- ---- what is read, and its text
 -- a law whose first i terms are read
@@ -281,14 +280,6 @@ module _ (places : ℕ) (all : List ℕ) where
 
 pub takes-only-texts : TakesOnlyTexts
 takes-only-texts places s sheet e = subst (Right places s) e (right places s)
-
--- so what the reader tells has no more weights than there are severities, and at most as many as there are places; a refusal has none
-pub counted : (places : ℕ) (s : List ℕ) → (told (reading places s) .count ≤ mostSeverities) × (told (reading places s) .count ≤ places)
-counted places s = by (reading places s) refl
-  where
-    by : (r : Reading) → reading places s ≡ r → (told r .count ≤ mostSeverities) × (told r .count ≤ places)
-    by (reads sheet) e = let taken = takes-only-texts places s sheet e in (taken .0 .count-most, taken .1)
-    by (refuses number line) e = (zero-le, zero-le)
 
 pub refusal-numbers : RefusalNumbers
 refusal-numbers places s number n e =

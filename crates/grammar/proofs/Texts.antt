@@ -19,10 +19,10 @@ use Rattle.text.specs.Numbers.{AtMostTenDigits}
 use Rattle.text.specs.LineText.{lineText}
 use Rattle.lines.specs.Keywords.{LAW, TERM, START, LAST, SEVERITY, W}
 use Rattle.lines.proofs.LinePrinted.{Held, one, two, two-signed, line-printed, line-length}
-use Rattle.sheet.specs.Sheet.{Sheet, termsText, weightsText, sheetText}
-use Rattle.sheet.specs.Reading.{reads, noTerms, sheetOf}
-use Rattle.sheet.specs.Reading.{weightLines, severityLine, lastLine, startLine, termLines, lawLine, mostBytes, reading}
-use Rattle.sheet.specs.Accepts.{Terms, Writable, TakesAllTexts, TextsFit}
+use Rattle.grammar.specs.Sheet.{Sheet, termsText, weightsText, sheetText}
+use Rattle.grammar.specs.Reading.{reads, noTerms, sheetOf}
+use Rattle.grammar.specs.Reading.{weightLines, severityLine, lastLine, startLine, termLines, lawLine, mostBytes, reading}
+use Rattle.grammar.specs.Accepts.{Terms, Writable, TakesAllTexts, TextsFit}
 
 -- ---- what is known of a law as its terms are read
 -- the first i terms, and zero for the others

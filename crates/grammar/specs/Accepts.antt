@@ -10,8 +10,8 @@ use Rattle.model.specs.Limits.{mostOrder, mostSeverities}
 use Rattle.text.specs.Lines.{lineAt}
 use Rattle.text.specs.Numbers.{AtMostTenDigits}
 use Rattle.lines.specs.Line.{allNumbers, numberWords, signsOn}
-use Rattle.sheet.specs.Sheet.{Sheet, sheetText}
-use Rattle.sheet.specs.Reading.{reads, refuses, mostBytes, reading}
+use Rattle.grammar.specs.Sheet.{Sheet, sheetText}
+use Rattle.grammar.specs.Reading.{reads, refuses, mostBytes, reading}
 
 -- the four terms of a law, at most 10 digits each; those past the order are zero
 pub record Terms (order : ℕ) (terms : List ℤ) : Type 0 where
