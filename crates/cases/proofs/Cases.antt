@@ -25,12 +25,13 @@ use Rattle.text.specs.Bytes.{ascii}
 use Rattle.text.specs.Lines.{before, after, has, afterLines, longer, words, spaced}
 use Rattle.text.specs.Numbers.{valueFrom, number, digitsWithin, decimal}
 use Rattle.text.specs.LineText.{lineText}
+use Rattle.table.specs.Lines.{totalLines}
 use Rattle.lines.specs.Line.{allNumbers, line}
 use Rattle.grammar.specs.Reading.{weightLines, severityLine, lastLine, startLine, termLines, lawLine, reading}
 use Rattle.sheet.specs.Call.{Told, told, rowOnReturn}
 use Rattle.fault.specs.declared.Part.{Part}
 use Rattle.fault.specs.Call.{firstNoNumber, faultyWord, partOf, firstPart, faultyPart}
-use Rattle.report.specs.Report.{totalLines, curveText, reportText}
+use Rattle.report.specs.Report.{curveText, reportText}
 use Rattle.cases.specs.Cases.{Case, curve, reader, level, program, Holds, cases, CasesHold, test}
 use Rattle.cases.specs.Cases.{numbers, sameAnswer, sameRow, rows, sameLent, wholeNumbers, terms, sameBytes, sameTold}
 use Rattle.cases.specs.Cases.{partNumbers, samePart, queryNumbers, sameQuantiles}

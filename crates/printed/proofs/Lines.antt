@@ -17,7 +17,7 @@ use Rattle.text.specs.LineText.{lineText}
 use Rattle.text.proofs.Appended.{lines-append, lines-followed}
 use Rattle.text.proofs.Decimal.{decimal-plain}
 use Rattle.text.proofs.LineText.{line-text-is-line, line-text-first}
-use Rattle.report.specs.Report.{totalLines, tableText}
+use Rattle.table.specs.Lines.{totalLines, tableText}
 
 total-plain : (x : ℕ) → has lineEnd (decimal (pos x)) ≡ false
 total-plain x = decimal-plain lineEnd (omega arith) (pos x)

@@ -24,9 +24,10 @@ use Rattle.text.specs.Lines.{spaced}
 use Rattle.text.specs.Numbers.{decimal}
 use Rattle.text.specs.LineText.{lineText}
 use Rattle.text.proofs.Decimal.{digits-length, decimal-length, decimal-short}
+use Rattle.table.specs.Lines.{totalLine, totalLines, refusalLine}
 use Rattle.grammar.specs.Reading.{Reading, reads, refuses, mostBytes, reading}
 use Rattle.grammar.proofs.Taken.{refusal-numbers}
-use Rattle.report.specs.Report.{totalLine, totalLines, refusalLine, zeros, programRows, rowsText, curveText, readingText, reportText}
+use Rattle.report.specs.Report.{zeros, programRows, rowsText, curveText, readingText, reportText}
 use Rattle.report.specs.Fits.{WeightsFit, TotalsFit, textBytes, TextFits, inputBytes, InputFits}
 
 -- ---- the weights

@@ -1,41 +1,20 @@
--- The program: "It writes the line below in capitals, then one line for each total: total, low, high, bound. On refusal it writes one line
--- only: `REFUSED`, the number and the place or line. Single spaces stand between words, and every line has a line end."
+-- The program: what it writes on the bytes of a sheet, a table or a refusal's line (table/specs/Lines).
 use mathlib.Core.Path.{_≡_}
 use mathlib.Core.Bool.{false, cond}
 use mathlib.Core.Logic.{_⊎_}
-use mathlib.Core.List.{List, [], _∷_, _++_}
-use Prim.Native.Nat.{ℕ, zero, suc, _+_}
+use mathlib.Core.List.{List}
+use Prim.Native.Nat.{ℕ, _+_}
 use lib.IntN.{ℤ, pos}
-use lib.ListN.{getD, replicate}
+use lib.ListN.{replicate}
 use Rattle.model.specs.declared.Job.{Job}
 use Rattle.model.specs.Answer.{Answer, accepted, refused, isAccepted}
 use Rattle.model.specs.Limits.{mostSeverities, mostTotals}
 use Rattle.rows.specs.Layout.{Lent, lentRows, workPlaces}
 use Rattle.compound.specs.Call.{curveAnswer, curveLent}
-use Rattle.text.specs.Bytes.{ascii}
-use Rattle.text.specs.Numbers.{decimal}
-use Rattle.text.specs.LineText.{lineText}
+use Rattle.table.specs.Lines.{tableText, refusalLine}
 use Rattle.grammar.specs.Sheet.{Sheet, sheetText}
 use Rattle.grammar.specs.Reading.{Reading, reads, refuses, reading}
 use Rattle.grammar.specs.Accepts.{Writable}
-
--- ---- lines
-abbrev pub totalLine : ℕ → (low high bound : ℤ) → List ℕ
-totalLine total low high bound = lineText (decimal (pos total)) (low ∷ high ∷ bound ∷ [])
-
-abbrev pub at : List ℤ → ℕ → ℤ
-at row x = getD row x (pos 0)
-
--- the lines of the first totals of three rows
-unfoldable pub totalLines : ℕ → (low high bound : List ℤ) → List ℕ
-totalLines zero low high bound = []
-totalLines (suc x) low high bound = totalLines x low high bound ++ totalLine x (at low x) (at high x) (at bound x)
-
-abbrev pub tableText : ℕ → (low high bound : List ℤ) → List ℕ
-tableText totals low high bound = ascii "TOTAL LOW HIGH BOUND\n" ++ totalLines totals low high bound
-
-abbrev pub refusalLine : Answer → List ℕ
-refusalLine answer = lineText (ascii "REFUSED") (pos (answer .number) ∷ pos (answer .place) ∷ [])
 
 -- ---- the program's own rows, which it lends to the calls, long enough for every X
 abbrev pub zeros : ℕ → List ℤ

@@ -1,7 +1,5 @@
 // The program's text: from a sheet's bytes to the bytes that `curve` writes.
 
-mod table;
-
 use compound::CurveAnswer;
 use model::Job;
 use model::limits::MOST_SEVERITIES;

@@ -7,10 +7,10 @@ use Rattle.model.specs.declared.Job.{Job}
 use Rattle.model.specs.Answer.{Answer, accepted, refused}
 use Rattle.model.specs.Job.{startOf, jobOf}
 use Rattle.lines.specs.Reason.{numberOf}
+use Rattle.grammar.specs.Reading.{Reading, reads, refuses, noTerms}
 use Rattle.sheet.specs.declared.LineAnswer.{LineAnswer}
 use Rattle.sheet.specs.declared.LineAnswer.the-variants.{Accepted, Refused}
 use Rattle.sheet.specs.declared.SheetRead.{SheetRead}
-use Rattle.grammar.specs.Reading.{Reading, reads, refuses, noTerms}
 
 -- ---- the answer
 -- what the paper says for each answer of the code; the place is the number of the line

@@ -7,8 +7,8 @@ use Prim.Native.Nat.{ℕ}
 use borrow.Author.Tests.{eq-eqb, ne-eqb}
 use lib.Dec.{eqb}
 use Rattle.model.specs.Answer.{Answer, refused}
-use Rattle.sheet.specs.declared.LineAnswer.{LineAnswer}
 use Rattle.grammar.specs.Reading.{Reading, reads, refuses, reading}
+use Rattle.sheet.specs.declared.LineAnswer.{LineAnswer}
 use Rattle.sheet.specs.Call.{Told, answerOf, told}
 use Rattle.fault.specs.Call.{noPart, partAt, partIn, faultyPart}
 use Rattle.fault.proofs.faulty_part.Statement.{statement}

@@ -14,7 +14,8 @@ use Rattle.compound.specs.declared.CurveAnswer.{CurveAnswer}
 use Rattle.compound.specs.Call.{numberOf, paper, curveAnswer, curveLent}
 use Rattle.compound.proofs.Returned.{reason-refuses}
 use Rattle.compound.proofs.Accepted.{limits}
-use Rattle.report.specs.Report.{programRows, rowsText, refusalLine, curveText}
+use Rattle.table.specs.Lines.{refusalLine}
+use Rattle.report.specs.Report.{programRows, rowsText, curveText}
 use Rattle.report.proofs.put_curve.Statement.{statement}
 use Rattle.report.proofs.put_curve.Tie as tie
 

@@ -11,15 +11,16 @@ use Rattle.model.specs.Answer.{Answer, accepted, refused}
 use Rattle.model.specs.Limits.{mostSeverities}
 use Rattle.output.specs.Output.{Output, output, Puts}
 use Rattle.output.proofs.Put.{put-whole}
+use Rattle.table.specs.Lines.{refusalLine}
 use Rattle.lines.specs.declared.Reason.{Reason}
 use Rattle.lines.specs.declared.Reason.the-variants.{Size, Missing, Form, Word, Limit, Excess, Places}
 use Rattle.lines.specs.Reason.{numberOf}
-use Rattle.sheet.specs.declared.LineAnswer.{LineAnswer}
 use Rattle.grammar.specs.Reading.{Reading, reads, refuses, reading}
+use Rattle.grammar.proofs.Taken.{refusal-numbers}
+use Rattle.sheet.specs.declared.LineAnswer.{LineAnswer}
 use Rattle.sheet.specs.Call.{Told, answerOf, paper, told}
 use Rattle.sheet.proofs.Counted.{counted}
-use Rattle.grammar.proofs.Taken.{refusal-numbers}
-use Rattle.report.specs.Report.{refusalLine, curveText, readingText, reportText}
+use Rattle.report.specs.Report.{curveText, readingText, reportText}
 use Rattle.report.specs.Fits.{textBytes}
 use Rattle.report.proofs.Fits.{text-fits}
 use Rattle.report.proofs.report.Statement.{statement}

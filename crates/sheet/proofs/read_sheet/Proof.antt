@@ -9,8 +9,8 @@ use lib.ListN.{length, take, drop}
 use lib.Seq.{length-take-le, take-append-seam}
 use Rattle.algebra.specs.Slice.{written}
 use Rattle.model.specs.Limits.{mostSeverities}
-use Rattle.sheet.specs.declared.SheetRead.{SheetRead}
 use Rattle.grammar.specs.Reading.{Reading, reads, refuses, reading}
+use Rattle.sheet.specs.declared.SheetRead.{SheetRead}
 use Rattle.sheet.specs.Call.{Told, answerOf, paper, told, rowOnReturn}
 use Rattle.sheet.proofs.Counted.{counted}
 use Rattle.sheet.proofs.read_sheet.Statement.{statement}

@@ -8,7 +8,7 @@ ghost use Prim.Native.Nat.{_≤_};
 ghost use lib.ListN.{length};
 ghost use Rattle.model.specs.Answer.{refused};
 ghost use Rattle.output.specs.Output.{output, Puts};
-ghost use Rattle.report.specs.Report.{totalLine, tableText, refusalLine};
+ghost use Rattle.table.specs.Lines.{totalLine, tableText, refusalLine};
 
 fn put_total(out: &mut [u8], at: usize, total: usize, low: i64, high: i64, bound: i64) -> usize
     ensures { λ r. ⌜ Puts (totalLine total low high bound) (output (now (out .entry)) at) (output (now (out .exit)) r) ⌝ }

@@ -9,9 +9,9 @@ use borrow.Author.Needs.{needs}
 use Rattle.algebra.proofs.Size.{held}
 use Rattle.output.specs.Output.{output, Puts}
 use Rattle.output.proofs.Put.{_then_, nothing}
-use Rattle.report.specs.Report.{totalLines}
-use Rattle.report.proofs.table.put_table.Statement.{statement}
-use Rattle.report.proofs.table.put_table.Tie as tie
+use Rattle.table.specs.Lines.{totalLines}
+use Rattle.table.proofs.put_table.Statement.{statement}
+use Rattle.table.proofs.put_table.Tie as tie
 
 abbrev Inv-loop : tie.InvT-loop
 Inv-loop out₀ totals low high bound at₀ total₀ out at total =

@@ -4,8 +4,8 @@ use Rattle.text.specs.Lines.{spaced}
 use Rattle.text.specs.Numbers.{decimal}
 use Rattle.text.specs.LineText.{lineText}
 use Rattle.output.proofs.Put.{_then_, nothing}
-use Rattle.report.proofs.table.put_refusal.Statement.{statement}
-use Rattle.report.proofs.table.put_refusal.Tie as tie
+use Rattle.table.proofs.put_refusal.Statement.{statement}
+use Rattle.table.proofs.put_refusal.Tie as tie
 
 returns : tie.Need-returns
 unfolding lineText spaced decimal

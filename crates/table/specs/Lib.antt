@@ -1,0 +1,2 @@
+-- The lines of the program's text.
+pub mod Lines
