@@ -58,7 +58,7 @@ law k D A B = lawOf k D (padded A) (padded B)
 abbrev marks : ℕ → List ℤ
 marks n = replicate n (pos 7)
 
--- the rows have two places more than the call asks for, the work row one
+-- the rows have two places more than the call asks for, the work row one; its "9 times (X+1)" is written here apart from the definition
 abbrev lentFor : (X : ℕ) → Lent
 lentFor X = lentRows (marks (X + 3)) (marks (X + 3)) (marks (X + 3)) (marks (9 * (X + 1) + 1))
 

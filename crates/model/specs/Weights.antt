@@ -1,4 +1,4 @@
--- The weights of a table of claim sizes.
+-- The sum of the weights of a table of claim sizes, and the divisor that it gives.
 use mathlib.Core.List.{List, [], _∷_}
 use Prim.Native.Nat.{ℕ, _+_, _*_}
 
