@@ -3,9 +3,9 @@
    The chance of each yearly claim total, as a low and a high with a bound on the gap between them, all in units: one unit U is
    1,000,000,000 and stands for chance 1. README.md says what the numbers of a job mean and what is claimed of the answers.
 
-   Every call takes numbers of any content and rows of any length. All but claimtotals_faulty_word, which refuses nothing, answer with a
-   number: 0 for an acceptance, else that of the refusal, the first in the order of the lists below that holds. Where a call refuses, its
-   place is 0 and it has written nothing but that place, unless its list says otherwise.
+   Every call takes numbers of any content and rows of any length. claimtotals_faulty_word and claimtotals_version refuse nothing. Each
+   other call answers with a number: 0 for an acceptance, else that of the refusal, the first in the order of the lists below that holds.
+   Where a call refuses, its place is 0 and it has written nothing but that place, unless its list says otherwise.
 
    What the caller owes: a pointer is not null and is aligned for its type; NAME_length is the number of places of the row NAME (0 is
    allowed); what a call writes to overlaps nothing else that it is given; and no other thread writes to any of it during the call. The
@@ -20,6 +20,10 @@
 #ifdef __cplusplus
 extern "C" {
 #endif
+
+/* The version of this header, as a number, major * 10,000 + minor * 100 + patch, and as text. */
+#define CLAIMTOTALS_VERSION 100
+#define CLAIMTOTALS_VERSION_TEXT "0.1.0"
 
 #define CLAIMTOTALS_UNIT INT64_C(1000000000)
 
@@ -115,6 +119,11 @@ void claimtotals_faulty_word(const uint8_t *sheet, size_t sheet_length, size_t p
    After a refusal both totals are 0. */
 uint64_t claimtotals_quantile(const int64_t *low, size_t low_length, const int64_t *high, size_t high_length, int64_t level, size_t *place,
                               size_t *sure, size_t *possible);
+
+/* The version of the library that runs, a number like CLAIMTOTALS_VERSION, which is that of the header a program was compiled with. Where
+   the library is shared the two may differ. Before 1.0 a minor version may change calls: where claimtotals_version() / 100 is not
+   CLAIMTOTALS_VERSION / 100, the calls of the library that runs may not be those of this header. */
+uint64_t claimtotals_version(void);
 
 #ifdef __cplusplus
 }

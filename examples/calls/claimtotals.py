@@ -32,6 +32,7 @@ CALLS = {
     "claimtotals_quantile": (c_uint64, [
         *row(c_int64), *row(c_int64), c_int64, POINTER(c_size_t), POINTER(c_size_t), POINTER(c_size_t),
     ]),
+    "claimtotals_version": (c_uint64, []),
 }
 
 

@@ -1,2 +1,3 @@
--- How the calls for C hand over what the crates' own definitions say.
+-- How the calls for C hand over what the crates' own definitions say, and the library's version.
 pub mod Handed
+pub mod Version
