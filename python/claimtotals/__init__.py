@@ -1,0 +1,29 @@
+"""Claim totals with proved bounds: the chance of each yearly claim total as a low and a high, with a bound on the gap between them.
+
+    import claimtotals
+
+    with open("poisson.txt", "rb") as file:
+        sheet = claimtotals.read_sheet(file.read(claimtotals.MOST_BYTES + 1))
+    chances = sheet.curve()
+    for row in chances:
+        print(row.total, row.digits())
+    print(chances.quantile(990_000_000).sure)
+
+Chances are in units of one billionth. Every number comes from a call of the proved library; a call that refuses raises `Refused`, and what
+does not fit a call is a ValueError before it.
+"""
+from claimtotals.curves import Curve, Quantile, Row, curve, quantile
+from claimtotals.layout import digits
+from claimtotals.library import MOST_BYTES, UNIT
+from claimtotals.refusals import Refused
+from claimtotals.sheets import Job, Sheet, read_sheet
+
+__all__ = ["MOST_BYTES", "UNIT", "Curve", "Job", "Quantile", "Refused", "Row", "Sheet", "curve", "digits", "quantile", "read_sheet"]
+
+
+def __getattr__(name: str) -> str:
+    """The version is the library's, which is opened when it is first needed."""
+    if name == "__version__":
+        from claimtotals.library import version
+        return version()
+    raise AttributeError(f"module {__name__!r} has no attribute {name!r}")

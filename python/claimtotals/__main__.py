@@ -1,0 +1,6 @@
+"""python3 -m claimtotals: the command."""
+import sys
+
+from claimtotals.command import main
+
+sys.exit(main())

@@ -1,0 +1,111 @@
+"""Curves and level queries: the chance of each total as a low and a high, and the totals up to which a level is covered."""
+from __future__ import annotations
+
+from ctypes import byref, c_size_t
+from dataclasses import dataclass
+from typing import Iterable, Iterator, NamedTuple
+
+from claimtotals import layout, library
+from claimtotals.numbers import SIGNED, UNSIGNED, row, whole, wholes
+from claimtotals.refusals import Refused
+from claimtotals.sheets import Job
+
+
+class Row(NamedTuple):
+    """A line of the table, in units of one billionth: the exact chance of the total lies from low to high, and these are at most bound
+    apart."""
+    total: int
+    low: int
+    high: int
+    bound: int
+
+    def digits(self, decimal_comma: bool = False) -> str:
+        """The digits of the chance that are true."""
+        return layout.digits(self.low, self.high, decimal_comma)
+
+
+class Quantile(NamedTuple):
+    """The answer of a level query: the smallest total at which the exact chances add up to the level lies from possible to sure, and at
+    sure they do."""
+    sure: int
+    possible: int
+
+
+@dataclass(frozen=True)
+class Curve:
+    """The chances of the totals 0 to the last, in units of one billionth: three tuples, by total. Its length is the number of totals;
+    iteration, and an index, give the rows.
+
+    >>> from claimtotals import Job, curve
+    >>> chances = curve(Job.of(1, [(0, 1)], (367879441, 367879442), 3), [1, 1])
+    >>> chances.low
+    (367879441, 183939720, 229924650, 99634015)
+    >>> chances[2].digits()
+    '0.22992465'
+    >>> chances.quantile(500_000_000)
+    Quantile(sure=1, possible=1)
+    """
+    low: tuple[int, ...]
+    high: tuple[int, ...]
+    bound: tuple[int, ...]
+
+    def __len__(self) -> int:
+        return len(self.low)
+
+    def __getitem__(self, total: int) -> Row:
+        """The row of a total, which is counted from 0; unlike a tuple's, none is counted from the end."""
+        if not 0 <= whole("total", total, SIGNED) < len(self):
+            raise IndexError(f"total {total} is not from 0 to {len(self) - 1}")
+        return Row(total, self.low[total], self.high[total], self.bound[total])
+
+    def __iter__(self) -> Iterator[Row]:
+        return (self[total] for total in range(len(self)))
+
+    def quantile(self, level: int) -> Quantile:
+        """The totals up to which the chances reach a level, in units: 990_000_000 for 99 years of 100."""
+        return quantile(self.low, self.high, level)
+
+    def text(self) -> str:
+        """The table as the program writes it."""
+        return layout.table(self)
+
+    def to_csv(self, decimal_comma: bool = False) -> str:
+        """The table for a spreadsheet, with chances as decimals. With `decimal_comma` they have a comma, and columns are parted by `;`."""
+        return layout.csv(self, decimal_comma)
+
+    def to_dicts(self) -> list[dict[str, int]]:
+        """A dict for each total, in units, as pandas.DataFrame takes them."""
+        return [row._asdict() for row in self]
+
+
+def curve_refusal(weights: Iterable[int], number: int, place: int) -> Refused:
+    """What is said of the curve call's refusal of a job with these weights."""
+    return Refused(number, place, more=f"; it is {sum(weights):,}" if number == 6 else "")
+
+
+def curve(job: Job, weights: Iterable[int]) -> Curve:
+    """The chance of each total from 0 to the job's last, where claims of the sizes 1, 2 and so on have these weights; Refused where the job
+    or the weights are outside the limits."""
+    job, weights = job.checked(), wholes("weights", weights)
+    table = row(weights, UNSIGNED)
+    low, high, bound = ((SIGNED * library.TOTALS)() for _ in range(3))
+    work, place = (SIGNED * library.WORK)(), c_size_t()
+    number = library.calls().claimtotals_curve(
+        job.order, job.divisor, row(job.a, SIGNED), row(job.b, SIGNED), job.start_low, job.start_high, job.last, table, len(table), low,
+        len(low), high, len(high), bound, len(bound), work, len(work), byref(place))
+    if number:
+        raise curve_refusal(weights, number, place.value)
+    count = job.last + 1
+    return Curve(tuple(low[:count]), tuple(high[:count]), tuple(bound[:count]))
+
+
+def quantile(low: Iterable[int], high: Iterable[int], level: int) -> Quantile:
+    """The level query on rows of any lows and highs: `sure` is the smallest total at which the lows, added up from total 0 on, come to the
+    level or more, `possible` the smallest at which the highs do. Refused where the lows never do, or where the rows are none of a curve."""
+    lows, highs = row(wholes("low", low, SIGNED), SIGNED), row(wholes("high", high, SIGNED), SIGNED)
+    place, sure, possible = c_size_t(), c_size_t(), c_size_t()
+    number = library.calls().claimtotals_quantile(
+        lows, len(lows), highs, len(highs), whole("level", level, SIGNED), byref(place), byref(sure), byref(possible))
+    if number:
+        raise Refused(number, place.value)
+    return Quantile(sure.value, possible.value)

@@ -1,0 +1,70 @@
+"""How numbers are laid out: units as chances, true digits, tables. Nothing is computed here but places of digits."""
+from __future__ import annotations
+
+from typing import TYPE_CHECKING
+
+from claimtotals.library import UNIT
+from claimtotals.numbers import SIGNED, whole
+
+if TYPE_CHECKING:
+    from claimtotals.curves import Curve
+
+HEADING = "TOTAL LOW HIGH BOUND"
+
+
+def pointed(text: str, decimal_comma: bool) -> str:
+    return text.replace(".", ",") if decimal_comma else text
+
+
+def chance(units: int, decimal_comma: bool = False) -> str:
+    """Units as a decimal of nine digits, which is exact."""
+    ones, rest = divmod(abs(units), UNIT)
+    return pointed(f"{'-' if units < 0 else ''}{ones}.{rest:09}", decimal_comma)
+
+
+def short_chance(units: int) -> str:
+    """The same without zeros at its end."""
+    return chance(units).rstrip("0").rstrip(".")
+
+
+def common_start(first: str, second: str) -> str:
+    """The digits in front on which two decimals agree: none where the points do not stand below each other."""
+    if len(first) != len(second):
+        return ""
+    return first[:next((place for place, pair in enumerate(zip(first, second)) if pair[0] != pair[1]), len(first))]
+
+
+def digits(low: int, high: int, decimal_comma: bool = False) -> str:
+    """The decimal digits of a chance on which its low and its high agree, cut and not rounded, so that each is true of every number between
+    them. Where they agree on none but zeros in front, it says how much the chance is at most.
+
+    >>> digits(229924650, 229924652)
+    '0.22992465'
+    >>> digits(-1, 1)
+    'at most 0.000000001'
+    """
+    low, high = whole("low", low, SIGNED), whole("high", high, SIGNED)
+    if low > high:
+        raise ValueError(f"the low {low} is above the high {high}")
+    low_text, high_text = chance(low), chance(high)
+    agreed = common_start(low_text, high_text)
+    if low == high or agreed.strip("-0."):
+        return pointed(agreed.rstrip("."), decimal_comma)
+    return f"at most {pointed(high_text, decimal_comma)}"
+
+
+def table(curve: Curve) -> str:
+    """As the program writes it."""
+    return "".join(f"{line}\n" for line in [HEADING, *(" ".join(map(str, row)) for row in curve)])
+
+
+def digits_table(curve: Curve, decimal_comma: bool = False) -> str:
+    """Each total with its true digits."""
+    return "".join(f"{line}\n" for line in ["TOTAL CHANCE", *(f"{row.total} {row.digits(decimal_comma)}" for row in curve)])
+
+
+def csv(curve: Curve, decimal_comma: bool = False) -> str:
+    """For a spreadsheet."""
+    lines = [("total", "low", "high", "bound")]
+    lines += [(str(row.total), *(chance(units, decimal_comma) for units in row[1:])) for row in curve]
+    return "".join((";" if decimal_comma else ",").join(line) + "\n" for line in lines)

@@ -1,0 +1,83 @@
+"""The proved shared library: where it is, and its calls as ctypes takes them. `claimtotals.h` says what each call does."""
+from __future__ import annotations
+
+import ctypes
+import functools
+import pathlib
+from ctypes import POINTER, c_int64, c_size_t, c_uint64
+from typing import Callable
+
+UNIT = 1_000_000_000
+
+# Rows of these numbers of places are always long enough.
+WEIGHTS = 500
+TOTALS = 501
+WORK = 9 * TOTALS
+
+# So many bytes a sheet may have.
+MOST_BYTES = 16_384
+
+NAME = "libclaimtotals.so"
+
+# Bytes that are only read: a Python bytes object goes as it is.
+BYTES = ctypes.c_char_p
+
+
+def row(kind: type) -> tuple:
+    """A row and the number of its places."""
+    return POINTER(kind), c_size_t
+
+
+# The answer and the parameters of each call, in the header's order.
+CALLS = {
+    "claimtotals_version": (c_uint64, []),
+    "claimtotals_curve": (c_uint64, [
+        c_uint64, c_uint64, POINTER(c_int64), POINTER(c_int64), c_uint64, c_uint64, c_uint64, *row(c_uint64), *row(c_int64), *row(c_int64),
+        *row(c_int64), *row(c_int64), POINTER(c_size_t),
+    ]),
+    "claimtotals_read_sheet": (c_uint64, [
+        BYTES, c_size_t, *row(c_uint64), POINTER(c_size_t), POINTER(c_uint64), POINTER(c_uint64), POINTER(c_int64), POINTER(c_int64),
+        POINTER(c_uint64), POINTER(c_uint64), POINTER(c_uint64), POINTER(c_size_t),
+    ]),
+    "claimtotals_faulty_word": (None, [BYTES, c_size_t, c_size_t, POINTER(c_size_t), POINTER(c_size_t)]),
+    "claimtotals_quantile": (c_uint64, [
+        *row(c_int64), *row(c_int64), c_int64, POINTER(c_size_t), POINTER(c_size_t), POINTER(c_size_t),
+    ]),
+}
+
+
+def open_library(path: pathlib.Path) -> ctypes.CDLL:
+    """The library at this path. Without the declarations ctypes would take every number for a C int, and cut it. With them it cuts what has
+    more than 64 bits, without a word: `numbers` sees to that."""
+    library = ctypes.CDLL(str(path))
+    for name, (answer, parameters) in CALLS.items():
+        call = getattr(library, name)
+        call.restype, call.argtypes = answer, parameters
+    return library
+
+
+def stored() -> pathlib.Path:
+    """Beside this file, as the wheel has it; else in lib/, as the release has it, or where library/build puts it."""
+    package = pathlib.Path(__file__).resolve().parent
+    root = package.parents[1]
+    places = [package / NAME, root / "lib" / NAME, root / "target/library" / NAME]
+    for path in places:
+        if path.exists():
+            return path
+    raise OSError(f"there is no {NAME}: library/build builds it")
+
+
+# Where the library is; the commands of the repository build it first where that is due.
+find: Callable[[], pathlib.Path] = stored
+
+
+@functools.lru_cache(maxsize=None)
+def calls() -> ctypes.CDLL:
+    """The library, opened when the first call is made."""
+    return open_library(find())
+
+
+def version() -> str:
+    """That of the library: 0.1.0."""
+    number = calls().claimtotals_version()
+    return f"{number // 10_000}.{number // 100 % 100}.{number % 100}"

@@ -1,0 +1,114 @@
+"""Refusals in words, from the table refusals.ini."""
+from __future__ import annotations
+
+import configparser
+import pathlib
+import re
+from typing import NamedTuple, Optional
+
+# A longer faulty word is cut where it is shown.
+MOST_SHOWN = 40
+
+# What a line (23) or a word (24) looks like, in the order in which it is looked for. The table has a remedy for each.
+SEEN = {
+    23: {
+        "byte order mark": rb"\xef\xbb\xbf|\xff\xfe|\xfe\xff",
+        "comment": rb".*(#|//)",
+        "tab": rb".*\t",
+        "indented": rb" +\S",
+        "empty": rb"\s*$",
+        "lower case": rb"(law|term|start|last|severity|w) ",
+        "spaces": rb".*(  | \r?$)",
+    },
+    24: {
+        "line ends of Windows": rb".*\r$",
+        "tab": rb".*\t",
+        "decimals": rb"-?[0-9]+\.[0-9]*$|\.[0-9]+$",
+        "comma": rb"-?[0-9]*(,[0-9]*)+(\.[0-9]*)?$",
+        "negative": rb"-[1-9][0-9]{0,9}$",
+        "plus sign": rb"\+[0-9]",
+        "zero in front": rb"-?0[0-9]+$",
+        "too many digits": rb"-?[1-9][0-9]{10,}$",
+        "empty": rb"$",
+    },
+}
+
+
+class Refusal(NamedTuple):
+    """A section of the table."""
+    number: int
+    call: str
+    name: str
+    why: str
+    at: str
+    place: str
+    remedy: str
+    seen: dict
+
+    def remedy_for(self, text: bytes) -> str:
+        """What to do; by what is seen in the text of the line or the word, where there is a remedy for it."""
+        for look, pattern in SEEN.get(self.number, {}).items():
+            if re.match(pattern, text, re.I if look == "lower case" else 0):
+                return self.seen[look]
+        return self.remedy
+
+
+def refusal(number: int, section: configparser.SectionProxy) -> Refusal:
+    words = {key: " ".join(value.split()) for key, value in section.items()}
+    seen = {key[len("seen "):]: value for key, value in words.items() if key.startswith("seen ")}
+    return Refusal(number, words["call"], words["name"], words["why"], words.get("at", ""), words.get("place", ""), words["remedy"], seen)
+
+
+def read_table() -> dict[int, Refusal]:
+    table = configparser.ConfigParser(interpolation=None, delimiters=("=",), comment_prefixes=("#",))
+    table.optionxform = str  # keys keep their capitals
+    table.read_string((pathlib.Path(__file__).parent / "refusals.ini").read_text(encoding="utf-8"))
+    return {int(number): refusal(int(number), table[number]) for number in table.sections()}
+
+
+# By number.
+REFUSALS = read_table()
+
+
+def printable(word: bytes) -> str:
+    """Bytes that would not be seen, and the backslash, by their numbers; a long word is cut."""
+    shown = "".join(chr(byte) if 0x20 < byte < 0x7f and byte != 0x5c else f"\\x{byte:02x}" for byte in word[:MOST_SHOWN])
+    return shown + ".." * (len(word) > MOST_SHOWN)
+
+
+class Refused(Exception):
+    """A refusal of a call.
+
+    number      that of the refusal
+    place       its place: a line of the sheet, a term, a total or a place of the rows; 0 where it has none
+    line        the place where it is a line, else None
+    word        the faulty word, as bytes, where the number is 24, else None
+    name        the reason's name
+    why         what holds
+    remedy      what to do
+    sentence    all of it, in words
+    """
+
+    def __init__(self, number: int, place: int, *, word: Optional[bytes] = None, text: bytes = b"", more: str = "") -> None:
+        """`text` is the line or the word where it may be seen what to do, and `more` is said after why."""
+        said = REFUSALS[number]
+        self.number, self.place, self.word, self.name = number, place, word, said.name
+        self.line = place if said.call == "sheet" else None
+        self.why = said.why + more
+        self.remedy = said.remedy_for(text)
+        self.at = f"{said.at} {place}" if said.at else ""
+        super().__init__(self.sentence)
+
+    @property
+    def reason(self) -> str:
+        """Number and why, with the word where there is one."""
+        shown = "" if self.word is None else f"; the word is {printable(self.word) or 'empty'}"
+        return f"refused by {self.number}: {self.why}{shown}. {self.remedy}"
+
+    @property
+    def sentence(self) -> str:
+        return f"{self.at}: {self.reason}" if self.at else self.reason
+
+    def of(self, source: str) -> str:
+        """The sentence with the name of the file or whatever else was refused."""
+        return f"{source}, {self.sentence}" if self.at else f"{source}: {self.sentence}"

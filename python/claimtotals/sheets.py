@@ -1,0 +1,120 @@
+"""Jobs and sheets, and the sheet reader."""
+from __future__ import annotations
+
+from ctypes import byref, c_size_t
+from typing import TYPE_CHECKING, Iterable, NamedTuple
+
+from claimtotals import library
+from claimtotals.numbers import SIGNED, UNSIGNED, whole, wholes
+from claimtotals.refusals import Refused
+
+if TYPE_CHECKING:
+    from claimtotals.curves import Curve
+
+# A law has so many pairs of terms; those past its order are 0.
+TERMS = 4
+
+
+class Job(NamedTuple):
+    """A law, the start of its chances, and the last total to compute.
+
+    order        k, the order of the law
+    divisor      D, the divisor of its terms
+    a, b         A_1..A_4 and B_1..B_4; those past k are 0
+    start_low    s, and
+    start_high   t: the chance of no claims lies from s to t billionths
+    last         X, the last total
+    """
+    order: int
+    divisor: int
+    a: tuple[int, ...]
+    b: tuple[int, ...]
+    start_low: int
+    start_high: int
+    last: int
+
+    @classmethod
+    def of(cls, divisor: int, terms: Iterable[tuple[int, int]], start: tuple[int, int], last: int) -> Job:
+        """The job of a law that is given by its divisor and its pairs of terms (A, B), one for each order.
+
+        >>> Job.of(1, [(0, 1)], (367879441, 367879442), 20).order
+        1
+        """
+        pairs = [tuple(pair) for pair in terms]
+        if not 1 <= len(pairs) <= TERMS or any(len(pair) != 2 for pair in pairs):
+            raise ValueError(f"terms: 1 to {TERMS} pairs of numbers, not {pairs!r:.200}")
+        if len(tuple(start)) != 2:
+            raise ValueError(f"start: two numbers, not {start!r:.200}")
+        none = (0,) * (TERMS - len(pairs))
+        return cls(len(pairs), divisor, tuple(a for a, _ in pairs) + none, tuple(b for _, b in pairs) + none, *start, last).checked()
+
+    def checked(self) -> Job:
+        """The same with plain numbers, each of which fits a call; else a ValueError."""
+        a, b = wholes("a", self.a, SIGNED), wholes("b", self.b, SIGNED)
+        for name, terms in ("a", a), ("b", b):
+            if len(terms) != TERMS:
+                raise ValueError(f"{name}: {TERMS} numbers, not {len(terms)}")
+        return Job(whole("order", self.order), whole("divisor", self.divisor), a, b, whole("start_low", self.start_low),
+                   whole("start_high", self.start_high), whole("last", self.last))
+
+
+class Sheet(NamedTuple):
+    """What a sheet says: a job, and the weights of the claim sizes 1, 2 and so on."""
+    job: Job
+    weights: tuple[int, ...]
+
+    def text(self) -> bytes:
+        """The sheet as a file has it. A ValueError where there is none: a job of numbers that no sheet may have."""
+        job, weights = self.job.checked(), wholes("weights", self.weights)
+        terms = list(zip(job.a, job.b))[:job.order]
+        lines = [("LAW", job.order, job.divisor), *(("TERM", *pair) for pair in terms), ("START", job.start_low, job.start_high),
+                 ("LAST", job.last), ("SEVERITY", len(weights)), *(("W", weight) for weight in weights)]
+        text = "".join(" ".join(map(str, line)) + "\n" for line in lines).encode()
+        try:
+            if read_sheet(text) == (job, weights):
+                return text
+        except Refused as refusal:
+            raise ValueError(f"no sheet has these numbers: {refusal.sentence}") from None
+        raise ValueError("no sheet has these numbers: the terms past the order are not 0")
+
+    def curve(self) -> Curve:
+        """The chances of the totals 0 to the last."""
+        from claimtotals.curves import curve
+        return curve(self.job, self.weights)
+
+
+def faulty_word(data: bytes) -> bytes:
+    """The word that 24 is about."""
+    start, count = c_size_t(), c_size_t()
+    library.calls().claimtotals_faulty_word(data, len(data), library.WEIGHTS, byref(start), byref(count))
+    return data[start.value:start.value + count.value]
+
+
+def sheet_refusal(data: bytes, number: int, line: int) -> Refused:
+    """What is said of the reader's refusal of these bytes."""
+    if number == 24:
+        word = faulty_word(data)
+        return Refused(number, line, word=word, text=word)
+    return Refused(number, line, text=data.split(b"\n")[line - 1] if line else b"")
+
+
+def read_sheet(data: bytes) -> Sheet:
+    """The job and the weights of a sheet, which is given by its bytes; Refused where it is no sheet.
+
+    >>> read_sheet(b"LAW 1 1\\nTERM 0 1\\nSTART 367879441 367879442\\nLAST 3\\nSEVERITY 2\\nW 1\\nW 1\\n").weights
+    (1, 1)
+    """
+    if not isinstance(data, (bytes, bytearray, memoryview)):
+        raise TypeError(f"a sheet is bytes, not {type(data).__name__}")
+    data = bytes(data)
+    weights = (UNSIGNED * library.WEIGHTS)()
+    line, count = c_size_t(), c_size_t()
+    order, divisor, start_low, start_high, last = (UNSIGNED() for _ in range(5))
+    a, b = (SIGNED * TERMS)(), (SIGNED * TERMS)()
+    number = library.calls().claimtotals_read_sheet(
+        data, len(data), weights, len(weights), byref(line), byref(order), byref(divisor), a, b, byref(start_low), byref(start_high),
+        byref(last), byref(count))
+    if number:
+        raise sheet_refusal(data, number, line.value)
+    job = Job(order.value, divisor.value, tuple(a), tuple(b), start_low.value, start_high.value, last.value)
+    return Sheet(job, tuple(weights[:count.value]))

@@ -1,0 +1,40 @@
+"""Words on the command line."""
+from __future__ import annotations
+
+import argparse
+import os
+import sys
+from typing import Callable, Sequence
+
+from claimtotals import streams
+
+
+def called() -> str:
+    """How the command was called, for its usage and its examples."""
+    folder, name = os.path.split(sys.argv[0])
+    if name == "__main__.py":
+        return "python3 -m claimtotals"
+    return f"./{name}" if folder == "." else name
+
+
+class Parser(argparse.ArgumentParser):
+    """Options are written out whole, and help ends with what is given as epilog, line by line."""
+
+    def __init__(self, **words: object) -> None:
+        super().__init__(**words, formatter_class=argparse.RawDescriptionHelpFormatter, allow_abbrev=False)
+
+    def print_help(self, file: object = None) -> None:
+        """argparse would not tell where it cannot be written."""
+        streams.write_output(self.format_help().encode())
+
+
+class Version(argparse.Action):
+    """Writes a version, which is found only where it is asked for."""
+
+    def __init__(self, option_strings: Sequence[str], dest: str, command: str, find: Callable[[], str]) -> None:
+        super().__init__(option_strings, dest, nargs=0, help="show the version and end")
+        self.command, self.find = command, find
+
+    def __call__(self, parser: argparse.ArgumentParser, *_: object) -> None:
+        streams.write_output(f"{self.command} {self.find()}\n".encode())
+        parser.exit()
