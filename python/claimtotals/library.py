@@ -5,7 +5,7 @@ import ctypes
 import functools
 import pathlib
 from ctypes import POINTER, c_int64, c_size_t, c_uint64
-from typing import Callable
+from typing import Callable, Iterable
 
 UNIT = 1_000_000_000
 
@@ -46,13 +46,13 @@ CALLS = {
 }
 
 
-def open_library(path: pathlib.Path) -> ctypes.CDLL:
-    """The library at this path. Without the declarations ctypes would take every number for a C int, and cut it. With them it cuts what has
-    more than 64 bits, without a word: `numbers` sees to that."""
+def open_library(path: pathlib.Path, names: Iterable[str] = CALLS) -> ctypes.CDLL:
+    """The library at this path with these calls. Without the declarations ctypes would take every number for a C int, and cut it. With them
+    it cuts what has more than 64 bits, without a word: `numbers` sees to that."""
     library = ctypes.CDLL(str(path))
-    for name, (answer, parameters) in CALLS.items():
+    for name in names:
         call = getattr(library, name)
-        call.restype, call.argtypes = answer, parameters
+        call.restype, call.argtypes = CALLS[name]
     return library
 
 
