@@ -11,7 +11,7 @@ from claimtotals.curves import Curve
 from claimtotals.picture import DEFAULT_TITLE, picture
 from claimtotals.refusals import Refused
 from claimtotals.sheets import read_sheet
-from claimtotals.usage import Parser, Version, called
+from claimtotals.usage import Parser, Version, called, title
 
 COMMAND = "claimtotals"
 
@@ -80,17 +80,11 @@ def draw(given: argparse.Namespace) -> int:
     return streams.WELL
 
 
-def title(text: str) -> str:
-    if not text.isprintable():
-        raise argparse.ArgumentTypeError("the title has characters that cannot be printed")
-    return text
-
-
 # ---- the command line
 
 def subcommand(commands: argparse._SubParsersAction, name: str, run: Callable, description: str, *examples: str) -> Parser:
     """A command that takes a sheet."""
-    epilog = "\n".join(["example:", *(f"  {called()} {name} {example}" for example in examples), "", STATUS])
+    epilog = "\n".join(["example:", *(f"  {called(COMMAND)} {name} {example}" for example in examples), "", STATUS])
     parser = commands.add_parser(name, help=description.split(":")[0], description=description, epilog=epilog)
     parser.set_defaults(run=run)
     parser.add_argument("sheet", metavar="SHEET", help="a file, or `-` for standard input")
@@ -120,12 +114,12 @@ def add_picture(commands: argparse._SubParsersAction) -> None:
     parser = subcommand(commands, "picture", draw, "A picture of the table, as SVG: lows and highs, their gaps and bounds.",
                         'examples/poisson.txt -o glass.svg --title "Broken glass"')
     parser.add_argument("-o", "--output", metavar="FILE", default="-", help="the file to write; without it, standard output")
-    parser.add_argument("--title", type=title, default=DEFAULT_TITLE)
+    parser.add_argument("--title", metavar="TEXT", type=title, default=DEFAULT_TITLE, help=f"what stands above it, else: {DEFAULT_TITLE}")
 
 
 def arguments(words: Optional[Sequence[str]]) -> argparse.Namespace:
-    parser = Parser(prog=called(), description="Yearly claim totals: the chance of each as a low and a high, proved to enclose it.",
-                    epilog=f"example:\n  {called()} level examples/poisson.txt 0.99\n\n{STATUS}")
+    parser = Parser(prog=called(COMMAND), description="Yearly claim totals: the chance of each as a low and a high, proved to enclose it.",
+                    epilog=f"example:\n  {called(COMMAND)} level examples/poisson.txt 0.99\n\n{STATUS}")
     parser.add_argument("--version", action=Version, command=COMMAND, find=library.version)
     commands = parser.add_subparsers(metavar="COMMAND", required=True)
     for add in add_table, add_level, add_picture:

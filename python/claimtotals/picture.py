@@ -5,15 +5,17 @@ from __future__ import annotations
 import math
 import textwrap
 from collections.abc import Callable, Iterable, Iterator, Sequence
-from typing import NamedTuple, Protocol
+from typing import TYPE_CHECKING, NamedTuple
 from xml.sax.saxutils import escape
+
+from claimtotals.library import UNIT
+
+if TYPE_CHECKING:
+    from claimtotals.curves import Row
 
 __all__ = ["DEFAULT_TITLE", "check_title", "picture"]
 
 DEFAULT_TITLE = "Chance of each yearly claim total"
-
-# It stands for chance 1; tests/picture holds it to the calculator's.
-UNIT = 1_000_000_000
 
 # places, in pixels
 WIDTH, LEFT, RIGHT = 900, 130, 880
@@ -26,22 +28,6 @@ INTERVAL, BOUND = "#123f73", "#a63a00"
 
 # Up to this largest number the lower panel's axis is linear.
 MOST_LINEAR = 20
-
-
-class Drawable(Protocol):
-    """What is drawn of a total: its row of a table, in units."""
-
-    @property
-    def total(self) -> int: ...
-
-    @property
-    def low(self) -> int: ...
-
-    @property
-    def high(self) -> int: ...
-
-    @property
-    def bound(self) -> int: ...
 
 
 class Panel(NamedTuple):
@@ -81,14 +67,14 @@ def logarithmic(powers: int) -> Callable[[int], float]:
     return lambda units: (1 + math.log10(units)) / (powers + 0.4) if units else 0
 
 
-def chance_axis(rows: Sequence[Drawable]) -> range:
+def chance_axis(rows: Sequence[Row]) -> range:
     """The marks, in units, with a little room beyond the ends."""
     least, greatest = min(0, *(row.low for row in rows)), max(1, *(row.high for row in rows))
     room = (greatest - least) // 50
     return ticks(least - room if least else 0, greatest + room, 8)
 
 
-def gap_axis(rows: Sequence[Drawable]) -> tuple[Sequence[int], Callable[[int], float]]:
+def gap_axis(rows: Sequence[Row]) -> tuple[Sequence[int], Callable[[int], float]]:
     """The marks, in units, and the scale: linear where the bounds are small."""
     greatest = max(row.bound for row in rows)
     if greatest <= MOST_LINEAR:
@@ -171,7 +157,7 @@ def beam(x: float, high: float, low: float, width: float) -> str:
     return f"M{left} {number(high)}H{right}M{number(x)} {number(high)}V{number(low)}M{left} {number(low)}H{right}"
 
 
-def interval(row: Drawable, x: float, width: float, panel: Panel) -> Iterator[str]:
+def interval(row: Row, x: float, width: float, panel: Panel) -> Iterator[str]:
     """Low to high, and a thin line that leads there from zero."""
     high, low, zero = panel.y(row.high), panel.y(row.low), panel.y(0)
     yield line(x, zero, x, min(max(zero, high), low), STEM, min(1, width))
@@ -179,21 +165,21 @@ def interval(row: Drawable, x: float, width: float, panel: Panel) -> Iterator[st
     yield element("path", said, d=beam(x, high, low, width), fill="none", stroke=INTERVAL, stroke_width=min(2.4, width), class_="interval")
 
 
-def gap(row: Drawable, x: float, width: float, panel: Panel) -> str:
+def gap(row: Row, x: float, width: float, panel: Panel) -> str:
     """A bar as high as the gap between low and high."""
     top = panel.y(row.high - row.low)
     return element("rect", x=x - width / 2, y=top, width=width, height=panel.bottom - top, fill=BAR, stroke=FRAME,
                    stroke_width=min(0.8, width / 4), class_="gap")
 
 
-def bounds(rows: Sequence[Drawable], edges: Sequence[float], panel: Panel) -> str:
+def bounds(rows: Sequence[Row], edges: Sequence[float], panel: Panel) -> str:
     """A line in steps, each as wide as a total's share of the axis."""
     steps = "".join(f"V{number(panel.y(row.bound))}H{number(edge)}" for row, edge in zip(rows, edges[1:]))
     return element("path", d=f"M{number(edges[0])} {number(panel.y(rows[0].bound))}{steps}", fill="none", stroke=BOUND, stroke_width=2,
                    class_="bound")
 
 
-def upper_legend(rows: Sequence[Drawable], y: float) -> Iterator[str]:
+def upper_legend(rows: Sequence[Row], y: float) -> Iterator[str]:
     """What a beam stands for, and how far its ends are apart at most, which the panel may be too small to show."""
     widest = max(row.high - row.low for row in rows)
     yield element("path", d=beam(LEFT + 8, y - 12, y + 1, 13), fill="none", stroke=INTERVAL, stroke_width=2.4)
@@ -208,7 +194,7 @@ def lower_legend(y: float) -> Iterator[str]:
     yield text("bound", LEFT + 170, y)
 
 
-def upper_panel(rows: Sequence[Drawable], panel: Panel, marks: Sequence[int], places: Sequence[float], width: float) -> Iterator[str]:
+def upper_panel(rows: Sequence[Row], panel: Panel, marks: Sequence[int], places: Sequence[float], width: float) -> Iterator[str]:
     """The chances."""
     yield from upper_legend(rows, panel.top - 14)
     yield from upright_axis(panel, marks, chance_words(marks), "chance")
@@ -218,7 +204,7 @@ def upper_panel(rows: Sequence[Drawable], panel: Panel, marks: Sequence[int], pl
     yield frame(panel)
 
 
-def lower_panel(rows: Sequence[Drawable], panel: Panel, marks: Sequence[int], edges: Sequence[float], places: Sequence[float],
+def lower_panel(rows: Sequence[Row], panel: Panel, marks: Sequence[int], edges: Sequence[float], places: Sequence[float],
                 width: float) -> Iterator[str]:
     """The gaps and the bounds."""
     yield from lower_legend(panel.top - 14)
@@ -239,7 +225,7 @@ def check_title(title: str) -> None:
         raise ValueError("the title has characters that cannot be printed")
 
 
-def picture(rows: Sequence[Drawable], title: str) -> str:
+def picture(rows: Sequence[Row], title: str) -> str:
     """The whole text of the picture of the rows of totals 0, 1, 2, ..; what is in front comes last."""
     check_title(title)
     heading = textwrap.wrap(title, LETTERS)

@@ -5,7 +5,7 @@ import contextlib
 import os
 import signal
 import sys
-from typing import BinaryIO, Callable, Iterator
+from typing import IO, Callable, Iterator
 
 from claimtotals.library import MOST_BYTES
 
@@ -50,33 +50,35 @@ def status(command: str, run: Callable[[], int]) -> int:
 
 
 def source(path: str) -> str:
-    """What a sheet is called: `-` is standard input."""
-    return INPUT if path == "-" else path
+    """What a file is called, on one line; `-` is standard input."""
+    return INPUT if path == "-" else path if path and path.isprintable() else ascii(path)
 
 
-def read_bytes(file: BinaryIO) -> bytes:
-    """One byte more than a sheet may have at most, so that a longer file is refused as too long, and never read whole."""
-    pieces, missing = [], MOST_BYTES + 1
-    while missing:
-        piece = os.read(file.fileno(), missing)
+def read_bytes(file: IO, most: int) -> bytes:
+    """At most one byte more than what is read may have, so that a longer file is told from it and yet never read whole."""
+    content = b""
+    while True:
+        piece = os.read(file.fileno(), most + 1 - len(content))
         if not piece:
-            break
-        pieces.append(piece)
-        missing -= len(piece)
-    return b"".join(pieces)
+            return content
+        content += piece
 
 
-def read_sheet_bytes(command: str, path: str) -> bytes:
-    """Of a file, or of standard input, where a person at a terminal is told that something is waited for."""
+def read_input(command: str, path: str, what: str, most: int) -> bytes:
+    """Of a file, or of standard input, where a person at a terminal is told what is waited for."""
     with told(source(path)):
         if path != "-":
             with open(path, "rb", buffering=0) as file:
-                return read_bytes(file)
+                return read_bytes(file, most)
         if sys.stdin is None:
-            raise OSError("it is closed")
+            raise OSError("it is closed, or a directory")
         if sys.stdin.isatty():
-            say(command, "waiting for a sheet on standard input; end it with Ctrl-D")
-        return read_bytes(sys.stdin.buffer)
+            say(command, f"waiting for {what} on standard input; end it with Ctrl-D")
+        return read_bytes(sys.stdin, most)
+
+
+def read_sheet_bytes(command: str, path: str) -> bytes:
+    return read_input(command, path, "a sheet", MOST_BYTES)
 
 
 def write_all(number: int, content: bytes) -> None:
@@ -95,5 +97,5 @@ def write_output(content: bytes) -> None:
 
 
 def write_file(path: str, content: bytes) -> None:
-    with told(path):
+    with told(source(path)):
         write_all(os.open(path, os.O_WRONLY | os.O_CREAT | os.O_TRUNC, 0o666), content)

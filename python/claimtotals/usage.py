@@ -7,14 +7,22 @@ import sys
 from typing import Callable, Sequence
 
 from claimtotals import streams
+from claimtotals.picture import check_title
 
 
-def called() -> str:
-    """How the command was called, for its usage and its examples."""
-    folder, name = os.path.split(sys.argv[0])
-    if name == "__main__.py":
-        return "python3 -m claimtotals"
-    return f"./{name}" if folder == "." else name
+def called(command: str) -> str:
+    """How a command is called, for its usage and its examples: by its script, as a module, or as the wheel installs it."""
+    ways = {"__main__.py": f"python3 -m {command}", command: command}
+    return ways.get(os.path.basename(sys.argv[0]), f"./{command}")
+
+
+def title(text: str) -> str:
+    """A word that can be drawn."""
+    try:
+        check_title(text)
+    except ValueError as fault:
+        raise argparse.ArgumentTypeError(str(fault)) from None
+    return text
 
 
 class Parser(argparse.ArgumentParser):

@@ -1,0 +1,17 @@
+"""./claimtotals COMMAND .."""
+import sys
+
+from beginning import IS_REPOSITORY
+
+from claimtotals import command, library
+
+
+def built():
+    import proving
+    proving.ready(proving.LIBRARY_CRATE)
+    return library.stored()
+
+
+if IS_REPOSITORY:
+    library.find = built
+sys.exit(command.main())
