@@ -1,7 +1,7 @@
 /* Claim totals with proved bounds: the calls for C.
 
    The chance of each yearly claim total, as a low and a high with a bound on the gap between them, all in units: one unit U is
-   1,000,000,000 and stands for chance 1. README.md says what the numbers of a job mean and what is claimed of the answers.
+   1,000,000,000 and stands for chance 1. README.md says what the numbers of a job mean, docs/CLAIMS.md what is claimed of the answers.
 
    Every call takes numbers of any content and rows of any length. claimtotals_faulty_word and claimtotals_version refuse nothing. Each
    other call answers with a number: 0 for an acceptance, else that of the refusal, the first in the order of the lists below that holds.

@@ -126,7 +126,7 @@ def serves(first, second):
 
 def group_law():
     all_serve = all(serves(*pair) for pair in combinations(ORDER_1, 2))
-    yield where(all_serve, "The same four lines serve any two laws of order 1 (source 002 of README.md, Section 4).")
+    yield where(all_serve, "The same four lines serve any two laws of order 1 (source 002 of CLAIMS.md, Section 4).")
     yield f"each with a claim by chance {FIFTH} in a year, and three tractors, each with a claim by chance {THIRD}."
     yield f"A van has a claim with the odds {FIFTH / (1 - FIFTH)} and a tractor with the odds {THIRD / (1 - THIRD)}."
     read = job("bicycles.txt")

@@ -1,10 +1,10 @@
-# The table of a sheet as a data frame, by the program `curve`. From the folder that has README.md:
+# The table of a sheet as a data frame, by the command `curve`. From the folder that has README.md, or by other paths from any folder:
 #
-#     ./curve examples/poisson.txt
 #     Rscript examples/calls/table.R examples/poisson.txt
 #
-# The first command builds the program; another path of it can be given as the second argument. The table, the mean and the totals for the
-# level below go to standard output, a refusal to standard error, and the exit status is then 1.
+# The command is looked for two folders above this file, and builds the program first where that is due; another can be given as the second
+# argument. The table, the mean and the totals for the level below go to standard output. What `curve` says goes to standard error: the
+# sentence of a refusal, with exit status 1, or what failed, with 2.
 
 unit <- 1e9
 # Which total do 99 percent of the years not exceed?
@@ -15,21 +15,20 @@ stop_with <- function(status, ...) {
     quit(status = status)
 }
 
-given <- commandArgs(trailingOnly = TRUE)
-if (!length(given) %in% 1:2) stop_with(2, "usage: Rscript table.R SHEET [PROGRAM]")
-sheet <- given[1]
-program <- if (length(given) == 2) given[2] else "target/bin/curve"
-if (!file.exists(sheet)) stop_with(2, "no file at ", sheet)
-if (!file.exists(program)) stop_with(2, "no program at ", program, ": ./curve SHEET builds target/bin/curve")
-
-lines <- system2(program, stdin = sheet, stdout = TRUE)
-if (!is.null(attr(lines, "status"))) stop_with(2, "the program ended with status ", attr(lines, "status"))
-
-# The program's exit status is 0 after a refusal too: its text tells.
-if (startsWith(lines[1], "REFUSED ")) {
-    numbers <- strsplit(lines[1], " ")[[1]]
-    stop_with(1, "refused by ", numbers[2], " at line or place ", numbers[3])
+# The folder of this file. R writes a space in its path as ~+~.
+folder <- function() {
+    path <- sub("^--file=", "", grep("^--file=", commandArgs(), value = TRUE)[1])
+    dirname(normalizePath(gsub("~+~", " ", path, fixed = TRUE)))
 }
+
+given <- commandArgs(trailingOnly = TRUE)
+if (!length(given) %in% 1:2) stop_with(2, "usage: Rscript table.R SHEET [COMMAND]")
+command <- if (length(given) == 2) given[2] else file.path(folder(), "..", "..", "curve")
+if (!file.exists(command)) stop_with(2, "no command at ", command)
+
+# Its status tells a refusal, and it has said all that is to be said.
+lines <- suppressWarnings(system2(normalizePath(command), c("--", shQuote(given[1])), stdout = TRUE))
+if (!is.null(attr(lines, "status"))) quit(status = attr(lines, "status"))
 
 # As doubles, which hold whole numbers up to 2^53: sums of the rows, and of totals times entries, stay below 10^15.
 totals <- read.table(text = lines, header = TRUE, colClasses = "numeric")
@@ -44,5 +43,5 @@ cat(sprintf("mean, totals up to %.0f: from %.9f to %.9f\n", max(totals$TOTAL), m
 # The smallest total at which the entries, added up from total 0 on, come to the level or more; NA where they never do.
 reached <- function(row) totals$TOTAL[which(cumsum(row) >= level)[1]]
 sure <- reached(totals$LOW)
-if (is.na(sure)) stop_with(1, sprintf("level %.0f: the lows never come to it", level))
-cat(sprintf("level %.0f: sure %.0f, possible %.0f\n", level, sure, reached(totals$HIGH)))
+if (is.na(sure)) stop_with(1, sprintf("level %.9g: the lows never add up to it", level / unit))
+cat(sprintf("level %.9g: sure %.0f, possible %.0f\n", level / unit, sure, reached(totals$HIGH)))

@@ -4,8 +4,9 @@
        cc -std=c99 -Wall -Wextra -I target/library -o target/table examples/calls/table.c target/library/libclaimtotals.a
        target/table examples/poisson.txt
 
-   The table goes to standard output, and after it the totals for the level below. A refusal goes to standard error, and the exit status is
-   then 1; it is 2 where the file cannot be read or the table cannot be written. */
+   README.md says how to compile it with the archive of a release. The table goes to standard output, and after it the totals for the level
+   below. A refusal goes to standard error, and the exit status is then 1; it is 2 where the file cannot be read or the table cannot be
+   written. */
 
 #include <inttypes.h>
 #include <stdio.h>
@@ -92,13 +93,14 @@ static void print_table(const struct rows *rows, size_t totals) {
 
 /* The query is about the totals of the table alone: later places of the rows are none of the curve. */
 static int print_level(const struct rows *rows, size_t totals) {
+    double chance = (double)LEVEL / CLAIMTOTALS_UNIT;
     size_t place, sure, possible;
     uint64_t number = claimtotals_quantile(rows->low, totals, rows->high, totals, LEVEL, &place, &sure, &possible);
     if (number != 0) {
-        fprintf(stderr, "level %" PRId64 ": refused by %" PRIu64 " at place %zu\n", LEVEL, number, place);
+        fprintf(stderr, "level %g: refused by %" PRIu64 " at place %zu\n", chance, number, place);
         return 1;
     }
-    printf("level %" PRId64 ": sure %zu, possible %zu\n", LEVEL, sure, possible);
+    printf("level %g: sure %zu, possible %zu\n", chance, sure, possible);
     return 0;
 }
 
