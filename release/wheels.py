@@ -17,8 +17,9 @@ INFO = f"claimtotals-{VERSION}.dist-info"
 # Every Python 3 can use it, as nothing in it is compiled for Python: ctypes opens the library.
 PYTHON = "py3-none"
 
-# It is for Linux on x86-64 with the GNU C library from this version on, as the library is asked below. The second name says the same to
-# older pips. No other system can open the library: musl has no such versions.
+# It is for Linux on x86-64 with the GNU C library, from this version on: `check_library` reads off the library what it asks for, which is
+# 2.14 today, and 2.17 is the next one that older pips have a name for, the second. Elsewhere pip refuses the wheel, and rightly: a C
+# library such as musl does not have these versions of symbols.
 GLIBC = 2, 17
 PLATFORMS = "manylinux_2_17_x86_64", "manylinux2014_x86_64"
 
@@ -102,7 +103,7 @@ def files():
     package = {path[len("python/"):]: (packing.ROOT / path).read_bytes() for path in packing.tracked(PACKAGE)}
     package["claimtotals/libclaimtotals.so"] = library()
     said = {"METADATA": metadata(), "WHEEL": WHEEL + tags(), "entry_points.txt": ENTRY_POINTS}
-    found = {**dict(sorted(package.items())), **{f"{INFO}/{name}": text.encode() for name, text in said.items()}}
+    found = {**dict(sorted(package.items())), **{f"{INFO}/{path}": text.encode() for path, text in said.items()}}
     return {**found, f"{INFO}/RECORD": record(found)}
 
 
