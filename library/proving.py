@@ -50,7 +50,9 @@ def program_is_due():
 
 
 def library_is_due():
-    return is_due(LIBRARY_STAMP, LIBRARY / "libclaimtotals.so", ROOT / "library", ROOT / "VERSION")
+    """Of its folder these files alone count, as Python keeps there what it has compiled of this one."""
+    sources = "library/claimtotals.h", "library/proving.py", "VERSION"
+    return is_due(LIBRARY_STAMP, LIBRARY / "libclaimtotals.so", *(ROOT / path for path in sources))
 
 
 # ---- proving
