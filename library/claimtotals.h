@@ -47,17 +47,18 @@ extern "C" {
    place         the place of a refusal; 0 after an acceptance
 
    0    accepted: the first X+1 places of the three rows hold the curve
-   1    k is not 1 to 4
-   2    D is not 1 to 1,000
+   1    the order k of the law is not 1 to 4
+   2    the divisor D is not 1 to 1,000
    3    a term is not from -1,000 to 1,000, or is past k and not 0; the place is the smallest such i, from 1
-   4    not 0 <= s <= t <= U with t >= 1
-   5    m is not 1 to 500
+   4    the start is not 0 <= s <= t <= U with t >= 1, where U is 1,000,000,000
+   5    the number m of weights is not 1 to 500
    6    the weights' sum is not 1 to 1,000
-   7    X is above 500
+   7    the last total X is above 500
    8    a row has fewer than X+1 places, or the work row fewer than 9(X+1)
-   9    at the total that is the place, the smallest with a fault, a low or a high would lie outside -2U to 2U, in the curve or in one of
-        the further rows that an order above 1 needs
-   10   at that total none would, but a bound would be above U, in the curve or in one of those rows
+   9    a low or a high would lie outside -2U to 2U, in the curve or in one of the further rows that an order above 1 needs; the place is
+        the smallest total with this fault or the next
+   10   a bound would be above U, in the curve or in one of those rows, so that the interval might say nothing; the place is the smallest
+        total with a fault, and 9 comes first there
 
    After 9 and 10 the first X+1 places of the three rows are 0. After 0, 9 and 10 the first 9(X+1) places of the work row are 0. Later
    places keep what they held. */
@@ -76,18 +77,18 @@ uint64_t claimtotals_curve(uint64_t order, uint64_t divisor, const int64_t a[4],
    count         m, the number of weights
 
    0    accepted: the first m places of the row hold the weights, and later places keep what they held
-   21   the sheet is empty or has more than 16,384 bytes; line 0
+   21   the sheet is empty or has more than 16,384 bytes; the line is 0
    Then line by line, in this order on a line:
    22   the line that is due is missing, or has no line end
-   23   it begins with another keyword, or has too many or too few words
-   24   a word is no number here (claimtotals_faulty_word tells which)
+   23   the line begins with another keyword than is due, or has too many or too few words
+   24   a word is no number here
    25   k is not 1 to 4, or m not 1 to 500
-   27   the row has fewer than m places
+   27   the row for weights has fewer than m places; the line is that of SEVERITY
    and after the last line:
-   26   bytes follow; the line is where they begin
+   26   bytes follow the last weight; the line is where they begin
 
-   After a refusal the row holds what it held, and the numbers of the job and the count are 0. Numbers in good form that are no good for the
-   curve are accepted here and refused there. */
+   After a refusal the row holds what it held, and the numbers of the job and the count are 0; claimtotals_faulty_word tells the word of 24.
+   Numbers in good form that are no good for the curve are accepted here and refused there. */
 uint64_t claimtotals_read_sheet(const uint8_t *sheet, size_t sheet_length, uint64_t *row, size_t row_length, size_t *line, uint64_t *order,
                                 uint64_t *divisor, int64_t a[4], int64_t b[4], uint64_t *start_low, uint64_t *start_high, uint64_t *last,
                                 size_t *count);
@@ -112,9 +113,9 @@ void claimtotals_faulty_word(const uint8_t *sheet, size_t sheet_length, size_t p
 
    0    accepted
    31   the rows are empty, not equally long, or longer than 501
-   32   L is not 1 to U
-   33   at the place, the first such, a low or a high lies outside -2U to 2U, or the low is above the high
-   34   the lows never come to L
+   32   the level L is not 1 to U, which is 1,000,000,000
+   33   a low or a high lies outside -2U to 2U, or the low is above the high; the place is the first such
+   34   the lows never add up to the level L
 
    After a refusal both totals are 0. */
 uint64_t claimtotals_quantile(const int64_t *low, size_t low_length, const int64_t *high, size_t high_length, int64_t level, size_t *place,

@@ -57,7 +57,7 @@ class Guarded:
 
 
 def make_by_python(library, call, guard):
-    """`library` as examples/calls/claimtotals.py declares it; `guard` is what the guard places hold."""
+    """`library` as python/claimtotals/library.py declares it; `guard` is what the guard places hold."""
     function = getattr(library, call.name)
     given, lent = [], []
     for name, parameter in call.parameters:

@@ -1,5 +1,6 @@
 """Random calls of the library, and what the calculator says to each: its answer, and what every lent place holds afterwards. Every function
-takes its chances from `r`, a random.Random."""
+takes its chances from `r`, a random.Random, but for `numbered`, which makes one."""
+import random
 import re
 from array import array
 from itertools import accumulate
@@ -274,6 +275,11 @@ def level_call(r):
 
 def call(r):
     return r.choices((curve_call, reader_call, word_call, level_call), (40, 20, 15, 25))[0](r)
+
+
+def numbered(seed, index):
+    """One of the calls of a seed, the same whenever it is asked for."""
+    return call(random.Random(f"{seed} {index}"))
 
 
 # What each call can be answered, 0 for an acceptance.

@@ -12,11 +12,11 @@
 Chances are in units of one billionth. Every number comes from a call of the proved library; a call that refuses raises `Refused`, and what
 does not fit a call is a ValueError before it.
 """
-from claimtotals.curves import Curve, Quantile, Row, curve, quantile
+from claimtotals.curves import Curve, Job, Quantile, Row, curve, quantile
 from claimtotals.layout import digits
 from claimtotals.library import MOST_BYTES, UNIT
 from claimtotals.refusals import Refused
-from claimtotals.sheets import Job, Sheet, read_sheet
+from claimtotals.sheets import Sheet, read_sheet
 
 __all__ = ["MOST_BYTES", "UNIT", "Curve", "Job", "Quantile", "Refused", "Row", "Sheet", "curve", "digits", "quantile", "read_sheet"]
 

@@ -1,4 +1,4 @@
-"""Curves and level queries: the chance of each total as a low and a high, and the totals up to which a level is covered."""
+"""Jobs, curves and level queries: the chance of each total as a low and a high, and the totals up to which a level is covered."""
 from __future__ import annotations
 
 from ctypes import byref, c_size_t
@@ -6,9 +6,55 @@ from dataclasses import dataclass
 from typing import Iterable, Iterator, NamedTuple
 
 from claimtotals import layout, library
-from claimtotals.numbers import SIGNED, UNSIGNED, row, whole, wholes
+from claimtotals.numbers import SIGNED, UNSIGNED, places, row, whole, wholes
 from claimtotals.refusals import Refused
-from claimtotals.sheets import Job
+
+# A law has so many pairs of terms; those past its order are 0.
+TERMS = 4
+
+
+class Job(NamedTuple):
+    """A law, the start of its chances, and the last total to compute.
+
+    order        k, the order of the law
+    divisor      D, the divisor of its terms
+    a, b         A_1..A_4 and B_1..B_4; those past k are 0
+    start_low    s, and
+    start_high   t: the chance of no claims lies from s to t billionths
+    last         X, the last total
+    """
+    order: int
+    divisor: int
+    a: tuple[int, ...]
+    b: tuple[int, ...]
+    start_low: int
+    start_high: int
+    last: int
+
+    @classmethod
+    def of(cls, divisor: int, terms: Iterable[tuple[int, int]], start: tuple[int, int], last: int) -> Job:
+        """The job of a law that is given by its divisor and its pairs of terms (A, B), one for each order.
+
+        >>> Job.of(1, [(0, 1)], (367879441, 367879442), 20).order
+        1
+        """
+        pairs = [places(f"terms[{i}]", pair) for i, pair in enumerate(places("terms", terms))]
+        if not 1 <= len(pairs) <= TERMS or any(len(pair) != 2 for pair in pairs):
+            raise ValueError(f"terms: 1 to {TERMS} pairs of numbers, not {pairs!r:.200}")
+        ends = places("start", start)
+        if len(ends) != 2:
+            raise ValueError(f"start: two numbers, not {ends!r:.200}")
+        none = (0,) * (TERMS - len(pairs))
+        return cls(len(pairs), divisor, tuple(a for a, _ in pairs) + none, tuple(b for _, b in pairs) + none, *ends, last).checked()
+
+    def checked(self) -> Job:
+        """The same with plain numbers, each of which fits a call; else a ValueError."""
+        a, b = wholes("a", self.a, SIGNED), wholes("b", self.b, SIGNED)
+        for name, terms in ("a", a), ("b", b):
+            if len(terms) != TERMS:
+                raise ValueError(f"{name}: {TERMS} numbers, not {len(terms)}")
+        return Job(whole("order", self.order), whole("divisor", self.divisor), a, b, whole("start_low", self.start_low),
+                   whole("start_high", self.start_high), whole("last", self.last))
 
 
 class Row(NamedTuple):
@@ -54,7 +100,8 @@ class Curve:
 
     def __getitem__(self, total: int) -> Row:
         """The row of a total, which is counted from 0; unlike a tuple's, none is counted from the end."""
-        if not 0 <= whole("total", total, SIGNED) < len(self):
+        total = whole("total", total, SIGNED)
+        if not 0 <= total < len(self):
             raise IndexError(f"total {total} is not from 0 to {len(self) - 1}")
         return Row(total, self.low[total], self.high[total], self.bound[total])
 
@@ -103,9 +150,10 @@ def quantile(low: Iterable[int], high: Iterable[int], level: int) -> Quantile:
     """The level query on rows of any lows and highs: `sure` is the smallest total at which the lows, added up from total 0 on, come to the
     level or more, `possible` the smallest at which the highs do. Refused where the lows never do, or where the rows are none of a curve."""
     lows, highs = row(wholes("low", low, SIGNED), SIGNED), row(wholes("high", high, SIGNED), SIGNED)
+    level = whole("level", level, SIGNED)
     place, sure, possible = c_size_t(), c_size_t(), c_size_t()
     number = library.calls().claimtotals_quantile(
-        lows, len(lows), highs, len(highs), whole("level", level, SIGNED), byref(place), byref(sure), byref(possible))
+        lows, len(lows), highs, len(highs), level, byref(place), byref(sure), byref(possible))
     if number:
         raise Refused(number, place.value)
     return Quantile(sure.value, possible.value)

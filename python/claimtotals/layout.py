@@ -1,6 +1,7 @@
 """How numbers are laid out: units as chances, true digits, tables. Nothing is computed here but places of digits."""
 from __future__ import annotations
 
+import os
 from typing import TYPE_CHECKING
 
 from claimtotals.library import UNIT
@@ -28,10 +29,9 @@ def short_chance(units: int) -> str:
 
 
 def common_start(first: str, second: str) -> str:
-    """The digits in front on which two decimals agree: none where the points do not stand below each other."""
-    if len(first) != len(second):
-        return ""
-    return first[:next((place for place, pair in enumerate(zip(first, second)) if pair[0] != pair[1]), len(first))]
+    """The digits in front on which two decimals agree: none where they do not agree up to the point, as the 1 of 10 and 15 is not one."""
+    agreed = os.path.commonprefix([first, second])
+    return agreed if "." in agreed else ""
 
 
 def digits(low: int, high: int, decimal_comma: bool = False) -> str:

@@ -4,6 +4,7 @@ from __future__ import annotations
 
 import ctypes
 import operator
+from collections.abc import Mapping, Set
 from typing import Iterable
 
 UNSIGNED = ctypes.c_uint64
@@ -11,30 +12,39 @@ SIGNED = ctypes.c_int64
 
 LIMITS = {UNSIGNED: (0, 2 ** 64 - 1), SIGNED: (-2 ** 63, 2 ** 63 - 1)}
 
+# A number of more bits is not written out where it does not fit: Python itself refuses to write very long ones.
+MOST_BITS_SHOWN = 128
+
 
 def whole(name: str, number: object, kind: type = UNSIGNED) -> int:
-    """A whole number that fits; also one of numpy's. A float never is one, nor is True."""
+    """A whole number that fits, as a plain one; it may be one of numpy's. A float never is one, nor is True."""
     least, most = LIMITS[kind]
     try:
-        found = operator.index(number)
+        found = int(operator.index(number))
     except TypeError:
-        raise ValueError(f"{name}: {number!r} is no whole number") from None
+        raise ValueError(f"{name}: {number!r:.200} is no whole number") from None
     if isinstance(number, bool):
         raise ValueError(f"{name}: {number!r} is no whole number")
     if not least <= found <= most:
-        raise ValueError(f"{name}: {found} is not from {least} to {most}")
+        bits = found.bit_length()
+        shown = found if bits <= MOST_BITS_SHOWN else f"a number of {bits} bits"
+        raise ValueError(f"{name}: {shown} is not from {least} to {most}")
     return found
 
 
+def places(name: str, given: Iterable[object]) -> tuple[object, ...]:
+    """What a row has at its places. A text is no row; nor is a set, which has no order, or a dict, of which only the keys would be seen."""
+    if not isinstance(given, (str, bytes, bytearray, Mapping, Set)):
+        try:
+            return tuple(given)
+        except TypeError:
+            pass
+    raise ValueError(f"{name}: {given!r:.200} is no row of numbers")
+
+
 def wholes(name: str, numbers: Iterable[object], kind: type = UNSIGNED) -> tuple[int, ...]:
-    """Such numbers, one after the other."""
-    if isinstance(numbers, (str, bytes, bytearray)):
-        raise ValueError(f"{name}: {numbers!r} is no row of numbers")
-    try:
-        found = tuple(numbers)
-    except TypeError:
-        raise ValueError(f"{name}: {numbers!r} is no row of numbers") from None
-    return tuple(whole(f"{name}[{place}]", number, kind) for place, number in enumerate(found))
+    """A row of such numbers."""
+    return tuple(whole(f"{name}[{place}]", number, kind) for place, number in enumerate(places(name, numbers)))
 
 
 def row(numbers: tuple[int, ...], kind: type) -> ctypes.Array:

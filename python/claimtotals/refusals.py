@@ -14,10 +14,10 @@ SEEN = {
     23: {
         "byte order mark": rb"\xef\xbb\xbf|\xff\xfe|\xfe\xff",
         "comment": rb".*(#|//)",
-        "tab": rb".*\t",
-        "indented": rb" +\S",
         "empty": rb"\s*$",
-        "lower case": rb"(law|term|start|last|severity|w) ",
+        "indented": rb"[ \t]+\S",
+        "tab": rb".*\t",
+        "lower case": rb"(?=[A-Z]*[a-z])(?i:law|term|start|last|severity|w)( |$)",
         "spaces": rb".*(  | \r?$)",
     },
     24: {
@@ -48,7 +48,7 @@ class Refusal(NamedTuple):
     def remedy_for(self, text: bytes) -> str:
         """What to do; by what is seen in the text of the line or the word, where there is a remedy for it."""
         for look, pattern in SEEN.get(self.number, {}).items():
-            if re.match(pattern, text, re.I if look == "lower case" else 0):
+            if re.match(pattern, text):
                 return self.seen[look]
         return self.remedy
 
@@ -77,7 +77,7 @@ def printable(word: bytes) -> str:
 
 
 class Refused(Exception):
-    """A refusal of a call.
+    """A refusal of a call. It can be pickled, so that one process can raise it in another.
 
     number      that of the refusal
     place       its place: a line of the sheet, a term, a total or a place of the rows; 0 where it has none
@@ -91,13 +91,16 @@ class Refused(Exception):
 
     def __init__(self, number: int, place: int, *, word: Optional[bytes] = None, text: bytes = b"", more: str = "") -> None:
         """`text` is the line or the word where it may be seen what to do, and `more` is said after why."""
+        super().__init__(number, place)  # from these it is made anew where it was pickled, and then gets its attributes back
         said = REFUSALS[number]
         self.number, self.place, self.word, self.name = number, place, word, said.name
         self.line = place if said.call == "sheet" else None
         self.why = said.why + more
         self.remedy = said.remedy_for(text)
         self.at = f"{said.at} {place}" if said.at else ""
-        super().__init__(self.sentence)
+
+    def __str__(self) -> str:
+        return self.sentence
 
     @property
     def reason(self) -> str:

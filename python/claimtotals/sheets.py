@@ -1,61 +1,13 @@
-"""Jobs and sheets, and the sheet reader."""
+"""Sheets and the sheet reader."""
 from __future__ import annotations
 
 from ctypes import byref, c_size_t
-from typing import TYPE_CHECKING, Iterable, NamedTuple
+from typing import NamedTuple
 
 from claimtotals import library
-from claimtotals.numbers import SIGNED, UNSIGNED, whole, wholes
+from claimtotals.curves import TERMS, Curve, Job, curve
+from claimtotals.numbers import SIGNED, UNSIGNED, wholes
 from claimtotals.refusals import Refused
-
-if TYPE_CHECKING:
-    from claimtotals.curves import Curve
-
-# A law has so many pairs of terms; those past its order are 0.
-TERMS = 4
-
-
-class Job(NamedTuple):
-    """A law, the start of its chances, and the last total to compute.
-
-    order        k, the order of the law
-    divisor      D, the divisor of its terms
-    a, b         A_1..A_4 and B_1..B_4; those past k are 0
-    start_low    s, and
-    start_high   t: the chance of no claims lies from s to t billionths
-    last         X, the last total
-    """
-    order: int
-    divisor: int
-    a: tuple[int, ...]
-    b: tuple[int, ...]
-    start_low: int
-    start_high: int
-    last: int
-
-    @classmethod
-    def of(cls, divisor: int, terms: Iterable[tuple[int, int]], start: tuple[int, int], last: int) -> Job:
-        """The job of a law that is given by its divisor and its pairs of terms (A, B), one for each order.
-
-        >>> Job.of(1, [(0, 1)], (367879441, 367879442), 20).order
-        1
-        """
-        pairs = [tuple(pair) for pair in terms]
-        if not 1 <= len(pairs) <= TERMS or any(len(pair) != 2 for pair in pairs):
-            raise ValueError(f"terms: 1 to {TERMS} pairs of numbers, not {pairs!r:.200}")
-        if len(tuple(start)) != 2:
-            raise ValueError(f"start: two numbers, not {start!r:.200}")
-        none = (0,) * (TERMS - len(pairs))
-        return cls(len(pairs), divisor, tuple(a for a, _ in pairs) + none, tuple(b for _, b in pairs) + none, *start, last).checked()
-
-    def checked(self) -> Job:
-        """The same with plain numbers, each of which fits a call; else a ValueError."""
-        a, b = wholes("a", self.a, SIGNED), wholes("b", self.b, SIGNED)
-        for name, terms in ("a", a), ("b", b):
-            if len(terms) != TERMS:
-                raise ValueError(f"{name}: {TERMS} numbers, not {len(terms)}")
-        return Job(whole("order", self.order), whole("divisor", self.divisor), a, b, whole("start_low", self.start_low),
-                   whole("start_high", self.start_high), whole("last", self.last))
 
 
 class Sheet(NamedTuple):
@@ -79,7 +31,6 @@ class Sheet(NamedTuple):
 
     def curve(self) -> Curve:
         """The chances of the totals 0 to the last."""
-        from claimtotals.curves import curve
         return curve(self.job, self.weights)
 
 
