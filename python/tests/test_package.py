@@ -4,6 +4,7 @@ import doctest
 import importlib
 import inspect
 import pathlib
+import sys
 import typing
 import unittest
 
@@ -111,6 +112,11 @@ def level(total):
 
 
 class Threads(unittest.TestCase):
+    def setUp(self):
+        """Python changes from one thread to another as often as it can."""
+        self.addCleanup(sys.setswitchinterval, sys.getswitchinterval())
+        sys.setswitchinterval(1e-6)
+
     def test_at_once(self):
         row = (250000000, 500000000, 250000000, 0, 0)
         asked = {binomial: lambda _: (row, row, (0, 1, 2, 1, 2)), sheet: lambda number: (number, 7), word: lambda number: b"%dx" % number,
