@@ -61,27 +61,35 @@ class Examples(unittest.TestCase):
 
 
 class EveryNumber(unittest.TestCase):
+    """Of all numbers from a low to a high, each a decimal."""
+
+    def check_digits(self, shown, numbers):
+        """All have the digits shown, and no further digit is common to all."""
+        self.assertTrue(all(are_of(shown, number) for number in numbers))
+        self.assertTrue(len(numbers) == 1 or shown.strip("-0."))
+        longer = numbers[0][:len(shown) + 1 + ("." not in shown)]
+        self.assertTrue(longer == shown or not all(are_of(longer, number) for number in numbers))
+
+    def check_at_most(self, shown, numbers):
+        """The greatest of several is shown, and no digits but zeros in front are common to all."""
+        self.assertGreater(len(numbers), 1)
+        self.assertEqual(shown, numbers[-1])
+        starts = [numbers[0][:length] for length in range(1, len(numbers[0]) + 1)]
+        common = [start for start in starts if start.strip("-0.") and start[-1] != "." and all(are_of(start, number) for number in numbers)]
+        self.assertEqual(common, [])
+
     def test_between(self):
-        """All numbers from low to high have the digits shown; no further digit is common to all of them; and where none is shown, none but
-        zeros in front could be."""
-        forms = {"digits": 0, "at most": 0}
+        counts = {"digits": 0, "at most": 0}
         for low, high in pairs():
             shown, numbers = digits(low, high), [decimal(number) for number in range(low, high + 1)]
             with self.subTest(low=low, high=high, shown=shown):
                 if shown.startswith("at most "):
-                    forms["at most"] += 1
-                    self.assertEqual(shown, f"at most {numbers[-1]}")
-                    longest = max((numbers[0][:length] for length in range(len(numbers[0]) + 1)
-                                   if all(number.startswith(numbers[0][:length]) for number in numbers)), key=len)
-                    self.assertTrue("." not in longest or not longest.strip("-0."))
-                    self.assertLess(low, high)
+                    counts["at most"] += 1
+                    self.check_at_most(shown[len("at most "):], numbers)
                 else:
-                    forms["digits"] += 1
-                    self.assertTrue(all(are_of(shown, number) for number in numbers))
-                    self.assertTrue(low == high or shown.strip("-0."))
-                    longer = numbers[0][:len(shown) + 1 + ("." not in shown)]
-                    self.assertTrue(longer == shown or not all(are_of(longer, number) for number in numbers))
-        self.assertTrue(all(count > 1000 for count in forms.values()), forms)
+                    counts["digits"] += 1
+                    self.check_digits(shown, numbers)
+        self.assertTrue(all(count > 1000 for count in counts.values()), counts)
 
 
 if __name__ == "__main__":
