@@ -7,11 +7,12 @@ import re
 import shutil
 import subprocess
 import sys
+import time
 
 ROOT = pathlib.Path(__file__).resolve().parent.parent
 sys.path.insert(0, str(ROOT / "python"))
 
-from claimtotals.streams import Failed
+from claimtotals.streams import Failed, show as say
 
 TARGET = ROOT / "target"
 PROGRAM = TARGET / "bin/curve"
@@ -20,12 +21,9 @@ LIBRARY = TARGET / "library"
 # The crates of which the two are made.
 PROGRAM_CRATE, LIBRARY_CRATE = "curve", "interface"
 
-# The time of such a file is that of the last build that passed: a program that was linked and then failed its stored case is there too.
+# The time of such a file is that at which the last build that passed began: a program that was linked and then failed its stored case is
+# there too.
 PROGRAM_STAMP, LIBRARY_STAMP = TARGET / "curve.passed", LIBRARY / "passed"
-
-
-def say(line):
-    print(line, file=sys.stderr, flush=True)
 
 
 def version():
@@ -35,9 +33,10 @@ def version():
 # ---- what is due
 
 def newest(*paths):
-    """The latest time at which one of these files was changed, or one of these folders with all that they hold."""
+    """The latest time at which one of these files was changed, or one of these folders with all that they hold. Links are not followed: an
+    editor may leave some that lead nowhere."""
     found = [*paths, *(os.path.join(folder, name) for path in paths for folder, *names in os.walk(path) for name in sum(names, []))]
-    return max(os.stat(path).st_mtime_ns for path in found)
+    return max(os.lstat(path).st_mtime_ns for path in found)
 
 
 def is_due(stamp, built, *sources):
@@ -53,6 +52,12 @@ def library_is_due():
     """Of its folder these files alone count, as Python keeps there what it has compiled of this one."""
     sources = "library/claimtotals.h", "library/proving.py", "VERSION"
     return is_due(LIBRARY_STAMP, LIBRARY / "libclaimtotals.so", *(ROOT / path for path in sources))
+
+
+def pass_build(stamp, began):
+    """What is changed while it is built is newer."""
+    stamp.touch()
+    os.utime(stamp, ns=(began, began))
 
 
 # ---- proving
@@ -92,7 +97,7 @@ class Progress:
 
 def fault_of(lines):
     """What a run says of its first fault."""
-    told = [line for line in lines if re.search(r"\berror\b|: not proved|^rt: .*\b(not|failed)\b", line)]
+    told = [line for line in lines if re.search(r"\berror\b|: not proved|^rt: .*\b(not|NOT|FAILED)\b", line)]
     return "\n".join(line[:400] for line in told[:4] or lines[-4:])
 
 
@@ -111,9 +116,10 @@ def prove(progress, *command):
 # ---- the program and the library
 
 def build_program(progress):
+    began = time.time_ns()
     PROGRAM_STAMP.unlink(missing_ok=True)
     prove(progress, "rt", "check", PROGRAM_CRATE)
-    PROGRAM_STAMP.touch()
+    pass_build(PROGRAM_STAMP, began)
 
 
 def shared_name():
@@ -140,12 +146,13 @@ def clear(folder):
 
 def build_library(progress, folder=LIBRARY):
     """The static and the shared library in this folder, with the header beside them."""
+    began = time.time_ns()
     clear(folder)
     prove(progress, "rt", "staticlib", LIBRARY_CRATE)
     shutil.copy(TARGET / "staticlib/libinterface.a", folder / "libclaimtotals.a")
     shutil.copy(ROOT / "library/claimtotals.h", folder)
     link(folder / "libclaimtotals.a", folder)
-    (folder / LIBRARY_STAMP.name).touch()
+    pass_build(folder / LIBRARY_STAMP.name, began)
 
 
 # ---- for the commands
@@ -162,20 +169,26 @@ def room_to_build():
             fcntl.flock(lock, fcntl.LOCK_EX)
             yield
     except OSError as fault:
-        raise Failed(f"nothing can be built here: {fault.filename}: {fault.strerror}") from None
+        raise Failed(f"nothing can be built here: {fault.filename or TARGET}: {fault.strerror}") from None
 
 
 PARTS = {PROGRAM_CRATE: (program_is_due, build_program), LIBRARY_CRATE: (library_is_due, build_library)}
 
 
+def due(crates):
+    return [crate for crate in crates if PARTS[crate][0]()]
+
+
+def build(crates):
+    progress = Progress(crates)
+    for crate in crates:
+        PARTS[crate][1](progress)
+
+
 def ready(*crates):
     """Builds what is made of these crates, where that is due."""
-    def due():
-        return [crate for crate in crates if PARTS[crate][0]()]
-
-    if due():
+    if due(crates):
         with room_to_build():
-            names = due()
-            progress = Progress(names)
-            for name in names:
-                PARTS[name][1](progress)
+            still_due = due(crates)  # another command may have built it meanwhile
+            if still_due:
+                build(still_due)

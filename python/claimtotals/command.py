@@ -85,7 +85,7 @@ def draw(given: argparse.Namespace) -> int:
 def subcommand(commands: argparse._SubParsersAction, name: str, run: Callable, description: str, *examples: str) -> Parser:
     """A command that takes a sheet."""
     epilog = "\n".join(["example:", *(f"  {called(COMMAND)} {name} {example}" for example in examples), "", STATUS])
-    parser = commands.add_parser(name, help=description.split(":")[0], description=description, epilog=epilog)
+    parser = commands.add_parser(name, command=COMMAND, help=description.split(":")[0], description=description, epilog=epilog)
     parser.set_defaults(run=run)
     parser.add_argument("sheet", metavar="SHEET", help="a file, or `-` for standard input")
     return parser
@@ -118,7 +118,8 @@ def add_picture(commands: argparse._SubParsersAction) -> None:
 
 
 def arguments(words: Optional[Sequence[str]]) -> argparse.Namespace:
-    parser = Parser(prog=called(COMMAND), description="Yearly claim totals: the chance of each as a low and a high, proved to enclose it.",
+    parser = Parser(COMMAND, prog=called(COMMAND),
+                    description="Yearly claim totals: the chance of each as a low and a high, proved to enclose it.",
                     epilog=f"example:\n  {called(COMMAND)} level examples/poisson.txt 0.99\n\n{STATUS}")
     parser.add_argument("--version", action=Version, command=COMMAND, find=library.version)
     commands = parser.add_subparsers(metavar="COMMAND", required=True)

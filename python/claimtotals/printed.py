@@ -59,7 +59,7 @@ def read_table(text: bytes) -> list[Row]:
 
 
 def run(words: Sequence[str]) -> int:
-    parser = Parser(prog=called(COMMAND), description="A picture, as SVG, of the table that `curve` writes.",
+    parser = Parser(COMMAND, prog=called(COMMAND), description="A picture, as SVG, of the table that `curve` writes.",
                     epilog='example:\n  ./curve examples/poisson.txt | ./picture --title "A Poisson law" > poisson.svg')
     parser.add_argument("table", nargs="?", metavar="TABLE", default="-", help="a file; without it, or for `-`, standard input")
     parser.add_argument("--title", metavar="TEXT", type=title, default=DEFAULT_TITLE, help=f"what stands above it, else: {DEFAULT_TITLE}")

@@ -30,7 +30,7 @@ standard error; 2 for wrong use, and where input, output or the building of the 
 
 
 def arguments(words: Sequence[str], version: str) -> argparse.Namespace:
-    parser = Parser(prog=called(COMMAND), description=HELP, epilog=EXAMPLES.format(called=called(COMMAND)))
+    parser = Parser(COMMAND, prog=called(COMMAND), description=HELP, epilog=EXAMPLES.format(called=called(COMMAND)))
     parser.add_argument("sheet", metavar="SHEET", nargs="?", default="-", help="a file; without it, or for `-`, standard input")
     parser.add_argument("--version", action=Version, command=COMMAND, find=lambda: version)
     return parser.parse_args(words)

@@ -32,10 +32,15 @@ def told(name: str) -> Iterator[None]:
         raise Failed(f"{name}: {fault}") from None
 
 
+def show(line: str) -> None:
+    """On standard error, where there is one and it takes anything. Without one, `print` would turn to standard output."""
+    if sys.stderr is not None:
+        with contextlib.suppress(OSError):
+            print(line, file=sys.stderr, flush=True)
+
+
 def say(command: str, sentence: str) -> None:
-    """On standard error, where it can be said at all."""
-    with contextlib.suppress(OSError, AttributeError):
-        print(f"{command}: {sentence}", file=sys.stderr, flush=True)
+    show(f"{command}: {sentence}")
 
 
 def status(command: str, run: Callable[[], int]) -> int:
@@ -49,9 +54,14 @@ def status(command: str, run: Callable[[], int]) -> int:
         return FAILED
 
 
+def on_one_line(text: str) -> str:
+    """Where it has line ends, or letters that would not be seen, they are written out."""
+    return text if text and text.isprintable() else ascii(text)
+
+
 def source(path: str) -> str:
-    """What a file is called, on one line; `-` is standard input."""
-    return INPUT if path == "-" else path if path and path.isprintable() else ascii(path)
+    """What a file is called; `-` is standard input."""
+    return INPUT if path == "-" else on_one_line(path)
 
 
 def read_bytes(file: IO, most: int) -> bytes:

@@ -4,7 +4,7 @@ from __future__ import annotations
 import argparse
 import os
 import sys
-from typing import Callable, Sequence
+from typing import Callable, NoReturn, Sequence
 
 from claimtotals import streams
 from claimtotals.picture import check_title
@@ -26,10 +26,16 @@ def title(text: str) -> str:
 
 
 class Parser(argparse.ArgumentParser):
-    """Options are written out whole, and help ends with what is given as epilog, line by line."""
+    """Options are written out whole, and help ends with what is given as epilog, line by line. Wrong use is told on one line, with the
+    name of the command in front, as all else is."""
 
-    def __init__(self, **words: object) -> None:
+    def __init__(self, command: str, **words: object) -> None:
         super().__init__(**words, formatter_class=argparse.RawDescriptionHelpFormatter, allow_abbrev=False)
+        self.command = command
+
+    def error(self, message: str) -> NoReturn:
+        streams.say(self.command, f"{streams.on_one_line(message)}; {' '.join(self.format_usage().split())}")
+        self.exit(streams.FAILED)
 
     def print_help(self, file: object = None) -> None:
         """argparse would not tell where it cannot be written."""
