@@ -113,6 +113,7 @@ SEEN = {
     "a negative divisor": (24, "negative", with_line(FIRST, "LAW 1 -1")),
     "a negative start": (24, "negative", with_line(3, "START -1 1")),
     "a negative weight": (24, "negative", with_line(LAST, "W -5")),
+    "a minus sign before zero": (24, "minus zero", with_line(2, "TERM -0 1")),
     "a plus sign": (24, "plus sign", with_line(2, "TERM +1 0")),
     "a plus sign before a weight": (24, "plus sign", with_line(LAST, "W +1")),
     "zeros in front": (24, "zero in front", with_line(LAST, "W 007")),

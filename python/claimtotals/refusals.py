@@ -26,6 +26,7 @@ SEEN = {
         "decimals": rb"-?[0-9]+\.[0-9]*$|\.[0-9]+$",
         "comma": rb"-?[0-9]*(,[0-9]*)+(\.[0-9]*)?$",
         "negative": rb"-[1-9][0-9]{0,9}$",
+        "minus zero": rb"-0$",
         "plus sign": rb"\+[0-9]",
         "zero in front": rb"-?0[0-9]+$",
         "too many digits": rb"-?[1-9][0-9]{10,}$",

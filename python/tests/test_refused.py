@@ -161,13 +161,14 @@ class Remedies(unittest.TestCase):
         for word in b"1,000", b"3,7", b"1,000.5":
             self.seen(with_weight(b"W " + word), 24, "commas", "1000 for 1,000", "3,7 and 6,3 are 37 and 63")
         self.seen(with_weight(b"W -1"), 24, "minus sign", "no weight is negative")
+        self.seen(with_weight(b"W -0"), 24, "Write 0 without the minus sign")
         self.seen(with_weight(b"W +1"), 24, "plus sign")
         self.seen(with_weight(b"W 007"), 24, "zero in front")
         self.seen(with_weight(b"W 12345678901"), 24, "at most 10 digits")
         self.seen(with_weight(b"W "), 24, "single spaces")
 
     def test_other_words(self):
-        for word in b"10n5", b"-0", b"1e3", b"--1", b"\x00":
+        for word in b"10n5", b"1e3", b"--1", b"\x00":
             self.not_seen(with_weight(b"W " + word), 24)
 
     def test_sum(self):
