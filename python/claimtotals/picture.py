@@ -5,8 +5,8 @@ from __future__ import annotations
 import math
 import textwrap
 from collections.abc import Callable, Iterable, Iterator, Sequence
+from html import escape
 from typing import TYPE_CHECKING, NamedTuple
-from xml.sax.saxutils import escape
 
 from claimtotals.library import UNIT
 
@@ -122,7 +122,7 @@ def line(x1: float, y1: float, x2: float, y2: float, colour: str, width: float) 
 
 def text(words: str, x: float, y: float, anchor: str = "start", size: float = 13, **attributes: str) -> str:
     """Words, whatever their characters mean in XML."""
-    return element("text", escape(words), x=x, y=y, text_anchor=anchor, font_size=size, **attributes)
+    return element("text", escape(words, quote=False), x=x, y=y, text_anchor=anchor, font_size=size, **attributes)
 
 
 def frame(panel: Panel) -> str:
@@ -239,7 +239,7 @@ def picture(rows: Sequence[Row], title: str) -> str:
     width = min(0.7 * share, 26)
     height = lower.bottom + FOOT
     drawn = [
-        element("title", escape(title)),
+        element("title", escape(title, quote=False)),
         element("rect", width=WIDTH, height=height, fill="#ffffff"),
         *(text(words, LEFT, 30 + TITLE_LINE * place, size=18, font_weight="bold") for place, words in enumerate(heading)),
         element("g", lines_of(upper_panel(rows, upper, chances, places, width)), class_="upper"),
