@@ -1,7 +1,7 @@
 /* Claim totals with proved bounds: the calls for C.
 
-   The chance of each yearly claim total, as a low and a high with a bound on the gap between them, all in units: one unit U is
-   1,000,000,000 and stands for chance 1. README.md says what the numbers of a job mean, docs/CLAIMS.md what is claimed of the answers.
+   The chance of each yearly claim total, as a low and a high with a bound on the gap between them, all in units of a billionth: U, which
+   is 1,000,000,000 units, stands for chance 1. README.md says what the numbers of a job mean, docs/CLAIMS.md what is claimed of the answers.
 
    Every call takes numbers of any content and rows of any length. claimtotals_faulty_word and claimtotals_version refuse nothing. Each
    other call answers with a number: 0 for an acceptance, else that of the refusal, the first in the order of the lists below that holds.
@@ -55,10 +55,10 @@ extern "C" {
    6    the weights' sum is not 1 to 1,000
    7    the last total X is above 500
    8    a row has fewer than X+1 places, or the work row fewer than 9(X+1)
-   9    a low or a high would lie outside -2U to 2U, in the curve or in one of the further rows that an order above 1 needs; the place is
-        the smallest total with this fault or the next
-   10   a bound would be above U, in the curve or in one of those rows, so that the interval might say nothing; the place is the smallest
-        total with a fault, and 9 comes first there
+   9    a low or a high would lie outside -2U to 2U, where U is 1,000,000,000, in the curve or in one of the further rows that an order
+        above 1 needs; the place is the smallest total with this fault or the next
+   10   a bound would be above U, which is 1,000,000,000, in the curve or in one of the further rows that an order above 1 needs, so that
+        the interval might say nothing; the place is the smallest total with a fault, and 9 comes first there
 
    After 9 and 10 the first X+1 places of the three rows are 0. After 0, 9 and 10 the first 9(X+1) places of the work row are 0. Later
    places keep what they held. */
@@ -113,7 +113,7 @@ void claimtotals_faulty_word(const uint8_t *sheet, size_t sheet_length, size_t p
 
    0    accepted
    31   the rows are empty, not equally long, or longer than 501
-   32   the level L is not 1 to U, which is 1,000,000,000
+   32   the level L is not 1 to U, where U is 1,000,000,000 units and stands for chance 1
    33   a low or a high lies outside -2U to 2U, or the low is above the high; the place is the first such
    34   the lows never add up to the level L
 

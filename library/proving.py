@@ -9,6 +9,10 @@ import subprocess
 import sys
 import time
 
+if sys.version_info < (3, 9):
+    sys.stderr.write("this needs Python 3.9 or newer\n")
+    sys.exit(2)
+
 ROOT = pathlib.Path(__file__).resolve().parent.parent
 sys.path.insert(0, str(ROOT / "python"))
 
@@ -17,13 +21,14 @@ from claimtotals.streams import Failed, show as say
 TARGET = ROOT / "target"
 PROGRAM = TARGET / "bin/curve"
 LIBRARY = TARGET / "library"
+HEADER = ROOT / "library/claimtotals.h"
 
 # The crates of which the two are made.
 PROGRAM_CRATE, LIBRARY_CRATE = "curve", "interface"
 
 # The time of such a file is that at which the last build that passed began: a program that was linked and then failed its stored case is
 # there too.
-PROGRAM_STAMP, LIBRARY_STAMP = TARGET / "curve.passed", LIBRARY / "passed"
+PROGRAM_STAMP, LIBRARY_STAMP = TARGET / "curve.passed", TARGET / "library.passed"
 
 
 def version():
@@ -96,9 +101,11 @@ class Progress:
 
 
 def fault_of(lines):
-    """What a run says of its first fault."""
-    told = [line for line in lines if re.search(r"\berror\b|: not proved|^rt: .*\b(not|NOT|FAILED)\b", line)]
-    return "\n".join(line[:400] for line in told[:4] or lines[-4:])
+    """What a run says of its first fault: its first errors, else what comes last before something is said not to be proved."""
+    end = next((place + 1 for place, line in enumerate(lines) if re.search("not proved|NOT PROVED", line)), len(lines))
+    errors = [line for line in lines[:end] if re.search(r"\berror\b", line)]
+    told = [*errors[:3], lines[end - 1]] if errors else lines[:end][-4:]
+    return "\n".join(line[:400] for line in told)
 
 
 def prove(progress, *command):
@@ -137,36 +144,57 @@ def link(archive, folder):
     (folder / "libclaimtotals.so").symlink_to(shared.name)
 
 
+def library_files():
+    """What is built for those who call, by name."""
+    return "libclaimtotals.a", "libclaimtotals.so", shared_name(), HEADER.name
+
+
 def clear(folder):
     """Takes the files of an earlier build away, so that none is left where this one fails."""
+    if folder == HEADER.parent:
+        raise Failed(f"{folder} has the header that is copied, so the library is built elsewhere")
     folder.mkdir(parents=True, exist_ok=True)
-    for path in [*folder.glob("libclaimtotals.*"), folder / "claimtotals.h", folder / LIBRARY_STAMP.name]:
-        path.unlink(missing_ok=True)
+    for name in library_files():
+        (folder / name).unlink(missing_ok=True)
 
 
-def build_library(progress, folder=LIBRARY):
+def build_files(progress, folder):
     """The static and the shared library in this folder, with the header beside them."""
-    began = time.time_ns()
     clear(folder)
     prove(progress, "rt", "staticlib", LIBRARY_CRATE)
     shutil.copy(TARGET / "staticlib/libinterface.a", folder / "libclaimtotals.a")
-    shutil.copy(ROOT / "library/claimtotals.h", folder)
+    shutil.copy(HEADER, folder)
     link(folder / "libclaimtotals.a", folder)
-    pass_build(folder / LIBRARY_STAMP.name, began)
+
+
+def build_library(progress):
+    began = time.time_ns()
+    LIBRARY_STAMP.unlink(missing_ok=True)
+    build_files(progress, LIBRARY)
+    pass_build(LIBRARY_STAMP, began)
 
 
 # ---- for the commands
 
+def lock_build(lock):
+    """Where two commands build at once, the second waits for the first."""
+    try:
+        fcntl.flock(lock, fcntl.LOCK_EX | fcntl.LOCK_NB)
+    except BlockingIOError:
+        say("another command is building here: waiting for it")
+        fcntl.flock(lock, fcntl.LOCK_EX)
+
+
 @contextlib.contextmanager
-def room_to_build():
-    """Where the tools are there and the folder can be written. Where two commands build at once, the second waits for the first."""
+def build_lock():
+    """Where the tools are there and the folder can be written."""
     for tool, source in ("rt", "the Rattle kit"), ("cc", "a C compiler"):
         if not shutil.which(tool):
             raise Failed(f"missing: {tool}, which comes with {source}; it is needed to build")
     try:
         TARGET.mkdir(exist_ok=True)
         with open(TARGET / "building", "w") as lock:
-            fcntl.flock(lock, fcntl.LOCK_EX)
+            lock_build(lock)
             yield
     except OSError as fault:
         raise Failed(f"nothing can be built here: {fault.filename or TARGET}: {fault.strerror}") from None
@@ -188,7 +216,7 @@ def build(crates):
 def ready(*crates):
     """Builds what is made of these crates, where that is due."""
     if due(crates):
-        with room_to_build():
+        with build_lock():
             still_due = due(crates)  # another command may have built it meanwhile
             if still_due:
                 build(still_due)

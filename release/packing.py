@@ -1,5 +1,4 @@
 """What python/build and release/build share: which files are packed, with which dates, and how the two are called."""
-import argparse
 import os
 import pathlib
 import shutil
@@ -7,6 +6,7 @@ import subprocess
 
 import proving
 from claimtotals import streams
+from claimtotals.usage import Parser
 
 ROOT = proving.ROOT
 
@@ -15,11 +15,13 @@ DATE = 1980, 1, 1, 0, 0, 0
 
 
 def by_git(folder):
-    """The files that git tracks there, by path; None where it cannot tell, as in a copy without the repository's own folder."""
-    if not (ROOT / ".git").exists() or not shutil.which("git"):
-        return None
-    ended = subprocess.run(["git", "ls-files", "-z", "--", folder], cwd=ROOT, stdin=subprocess.DEVNULL, capture_output=True)
-    return None if ended.returncode else [os.fsdecode(path) for path in ended.stdout.split(b"\0")[:-1]]
+    """The files that git tracks there, by path."""
+    command = ["git", "ls-files", "-z", "--", folder]
+    with streams.reporting("git"):
+        ended = subprocess.run(command, cwd=ROOT, stdin=subprocess.DEVNULL, stdout=subprocess.PIPE, stderr=subprocess.PIPE)
+    if ended.returncode:
+        raise streams.Failed(f"git does not tell which files belong to the repository: {ended.stderr.decode(errors='replace').strip()}")
+    return [os.fsdecode(path) for path in ended.stdout.split(b"\0")[:-1]]
 
 
 def by_name(folder):
@@ -29,9 +31,9 @@ def by_name(folder):
 
 
 def tracked(folder):
-    """The files of a folder that belong to the repository, so that no other that lies about there is packed."""
-    found = by_git(folder)
-    return sorted(by_name(folder) if found is None else found)
+    """The files of a folder that belong to the repository, so that no other that lies about there is packed. Where there is no git that
+    could tell, or a copy without the repository's own folder, all do."""
+    return sorted(by_git(folder) if (ROOT / ".git").exists() and shutil.which("git") else by_name(folder))
 
 
 def mode(path):
@@ -41,7 +43,7 @@ def mode(path):
 
 def build(folder, pattern, make):
     """Writes the files that `make` gives by name and content. Those of an earlier build go first, so that none is left where it fails."""
-    with streams.told(str(folder)):
+    with streams.reporting(str(folder)):
         folder.mkdir(parents=True, exist_ok=True)
         for path in folder.glob(pattern):
             path.unlink()
@@ -49,13 +51,12 @@ def build(folder, pattern, make):
     for name, content in files.items():
         streams.write_file(str(folder / name), content)
     proving.say(f"built in {folder}: {', '.join(files)}")
-    return streams.WELL
+    return streams.SUCCESS
 
 
 def main(command, description, pattern, make):
     """The status of such a command."""
-    words = argparse.ArgumentParser(prog=command, description=description, epilog=f"example: {command} target/dist")
+    words = Parser(command, prog=command, description=description, epilog=f"example: {command} target/dist")
     words.add_argument("folder", metavar="FOLDER", nargs="?", type=pathlib.Path, default=proving.TARGET / "dist",
                        help="target/dist without it")
-    folder = words.parse_args().folder.resolve()
-    return streams.status(command, lambda: build(folder, pattern, make))
+    return streams.status(command, lambda: build(words.parse_args().folder.resolve(), pattern, make))

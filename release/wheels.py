@@ -109,14 +109,14 @@ def files():
 
 def content():
     """The wheel's bytes. Nothing is compressed, as that gives other bytes where zlib is another one."""
-    room = io.BytesIO()
-    with zipfile.ZipFile(room, "w") as wheel:
+    buffer = io.BytesIO()
+    with zipfile.ZipFile(buffer, "w") as wheel:
         for path, stored in files().items():
             info = zipfile.ZipInfo(path, packing.DATE)
             info.create_system = 3  # Unix, so that the mode below counts
             info.external_attr = (0o100755 if path.endswith(".so") else 0o100644) << 16
             wheel.writestr(info, stored)
-    return room.getvalue()
+    return buffer.getvalue()
 
 
 def build():

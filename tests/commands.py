@@ -199,6 +199,11 @@ def sums_line(command, file, sheet):
     return re.escape(head) + "".join(f"(?=.*{word})" for word in named) + r".+\.\n"
 
 
+def excess_line(command, file, sheet):
+    """The same where they add up to more than 1, which is said with levels and pictures too."""
+    return sums_line(command, file, sheet) if sum(row[1] for row in rows(sheet)) > UNIT else ""
+
+
 # ---- sheets
 
 def text(*lines):

@@ -39,7 +39,6 @@ PLAIN = {
     "no line end behind the last line": (22, text(*SMALL)[:-1]),
     "one line without its end": (22, b"LAW 1 1"),
     "m larger than the weights": (22, with_line(5, "SEVERITY 3")),
-    "line ends of an old Mac": (22, text(*SMALL).replace(b"\n", b"\r")),
     "k larger than the terms": (23, with_line(1, "LAW 2 1")),
     "k smaller than the terms": (23, text("LAW 1 1", "TERM 0 1", *SMALL[1:])),
     "another keyword": (23, with_line(4, "LIMIT 3")),
@@ -51,7 +50,6 @@ PLAIN = {
     "a slip of the hand": (24, SLIP),
     "a backslash": (24, with_line(6, "W 1\\")),
     "bytes that are no text": (24, with_line(6, "W @").replace(b"@", b"\x00\x7f\x80\xff\xc3\xa9")),
-    "minus zero": (24, with_line(2, "TERM -0 1")),
     "two minus signs": (24, with_line(2, "TERM --1 1")),
     "k too large": (25, with_line(1, "LAW 5 1")),
     "k zero": (25, with_line(1, "LAW 0 1")),
@@ -65,6 +63,10 @@ PLAIN = {
 
 # What beginners write: the number, the remedy that fits, by its name in refusals.ini, and the sheet.
 SEEN = {
+    "line ends of an old Mac": (22, "line ends of old Macs", text(*SMALL).replace(b"\n", b"\r")),
+    "a comma between numbers": (23, "other separators", with_line(2, "TERM 0,1")),
+    "a semicolon between numbers": (23, "other separators", with_line(2, "TERM 0;1")),
+    "a space that does not break": (23, "other separators", with_line(2, "TERM 0\u00a01")),
     "a byte order mark": (23, "byte order mark", b"\xef\xbb\xbf" + text(*SMALL)),
     "UTF-16, as some editors save": (23, "byte order mark", text(*SMALL).decode().encode("utf-16")),
     "UTF-16, the other way round": (23, "byte order mark", b"\xfe\xff" + text(*SMALL).decode().encode("utf-16-be")),

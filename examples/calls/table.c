@@ -97,10 +97,10 @@ static int print_level(const struct rows *rows, size_t totals) {
     size_t place, sure, possible;
     uint64_t number = claimtotals_quantile(rows->low, totals, rows->high, totals, LEVEL, &place, &sure, &possible);
     if (number != 0) {
-        fprintf(stderr, "level %g: refused by %" PRIu64 " at place %zu\n", chance, number, place);
+        fprintf(stderr, "level %.9g: refused by %" PRIu64 " at place %zu\n", chance, number, place);
         return 1;
     }
-    printf("level %g: sure %zu, possible %zu\n", chance, sure, possible);
+    printf("level %.9g: sure %zu, possible %zu\n", chance, sure, possible);
     return 0;
 }
 

@@ -22,7 +22,7 @@ def show(path):
     print(chances.text(), end="")
     found = chances.quantile(LEVEL)
     # Output is written late: flush, so that it is known here whether it could be.
-    print(f"level 0.99: sure {found.sure}, possible {found.possible}", flush=True)
+    print(f"level {LEVEL / claimtotals.UNIT:.9g}: sure {found.sure}, possible {found.possible}", flush=True)
 
 
 def main():

@@ -7,7 +7,17 @@
     chances = sheet.curve()
     for row in chances:
         print(row.total, row.digits())
-    print(chances.quantile(990_000_000).sure)
+    print(chances.quantile(500_000_000).sure)
+
+A sheet is plain text. This one has a Poisson law with mean 1 and claims of size 1 or 2, each as likely:
+
+    LAW 1 1
+    TERM 0 1
+    START 367879441 367879442
+    LAST 3
+    SEVERITY 2
+    W 1
+    W 1
 
 Chances are in units of one billionth. Every number comes from a call of the proved library; a call that refuses raises `Refused`, and what
 does not fit a call is a ValueError before it.
@@ -25,5 +35,8 @@ def __getattr__(name: str) -> str:
     """The version is the library's, which is opened when it is first needed."""
     if name == "__version__":
         from claimtotals.library import version
-        return version()
+        try:
+            return version()
+        except OSError as fault:
+            raise AttributeError(f"there is no library that would tell its version: {fault}") from None
     raise AttributeError(f"module {__name__!r} has no attribute {name!r}")

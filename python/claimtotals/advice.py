@@ -1,7 +1,7 @@
 """What a table's reader should look at although nothing was refused."""
 from __future__ import annotations
 
-from typing import Iterable, Optional
+from typing import Optional, Sequence
 
 from claimtotals.layout import chance
 from claimtotals.library import UNIT
@@ -10,13 +10,20 @@ from claimtotals.library import UNIT
 SLACK = UNIT // 1000
 
 
-def about_sums(low: Iterable[int], high: Iterable[int]) -> Optional[str]:
-    """Where the lines of a table do not add up to 1, between which numbers they do, and what to look at. The sums are of whole numbers."""
-    least, most = sum(low), sum(high)
-    said = f"the chances of this table add up to between {chance(least)} and {chance(most)}"
-    if most < UNIT - SLACK:
-        return (f"{said}, not to 1. The rest is the chance of totals above the last, if there are such: make LAST larger to see them; else"
-                " look at START and at the law.")
-    if least > UNIT + SLACK:
-        return f"{said}, more than 1. Look at START, the chance of no claims in billionths, and at the law."
-    return None
+def sums(low: Sequence[int], high: Sequence[int]) -> str:
+    return f"the chances of this table add up to between {chance(sum(low))} and {chance(sum(high))}"
+
+
+def about_excess(low: Sequence[int], high: Sequence[int]) -> Optional[str]:
+    """Where the lines of a table add up to more than 1, between which numbers they do, and what to look at."""
+    if sum(low) <= UNIT + SLACK:
+        return None
+    return f"{sums(low, high)}, more than 1. Look at START, the chance of no claims in billionths, and at the law."
+
+
+def about_sums(low: Sequence[int], high: Sequence[int]) -> Optional[str]:
+    """The same, also where they add up to less."""
+    if sum(high) >= UNIT - SLACK:
+        return about_excess(low, high)
+    return (f"{sums(low, high)}, not to 1. The rest is the chance of totals above the last, if there are such: make LAST larger to see"
+            " them; else look at START and at the law.")

@@ -6,7 +6,7 @@ import re
 from typing import Callable, Optional, Sequence
 
 from claimtotals import layout, library, streams
-from claimtotals.advice import about_sums
+from claimtotals.advice import about_excess, about_sums
 from claimtotals.curves import Curve
 from claimtotals.picture import DEFAULT_TITLE, picture
 from claimtotals.refusals import Refused
@@ -15,11 +15,20 @@ from claimtotals.usage import Parser, Version, called, title
 
 COMMAND = "claimtotals"
 
+EXAMPLES = "table examples/poisson.txt --digits", "level examples/poisson.txt 0.99", "picture examples/poisson.txt -o glass.svg"
 STATUS = "status: 0; 1 where a call refuses, which is told in words on standard error; 2 for wrong use, and where input or output fails"
 
 
 def known_curve(path: str) -> Curve:
+    """A file is read before the library is built, so that a wrong name is told at once; who types a sheet is not kept waiting then."""
+    if path == "-":
+        library.calls()
     return read_sheet(streams.read_sheet_bytes(COMMAND, path)).curve()
+
+
+def remark(path: str, sentence: Optional[str]) -> None:
+    if sentence:
+        streams.say(COMMAND, f"{streams.source(path)}: {sentence}")
 
 
 # ---- table
@@ -33,10 +42,8 @@ def table_text(curve: Curve, given: argparse.Namespace) -> str:
 def table(given: argparse.Namespace) -> int:
     curve = known_curve(given.sheet)
     streams.write_output(table_text(curve, given).encode())
-    remark = about_sums(curve.low, curve.high)
-    if remark:
-        streams.say(COMMAND, f"{streams.source(given.sheet)}: {remark}")
-    return streams.WELL
+    remark(given.sheet, about_sums(curve.low, curve.high))
+    return streams.SUCCESS
 
 
 # ---- level
@@ -66,18 +73,21 @@ def level(given: argparse.Namespace) -> int:
     streams.write_output("".join(lines).encode())
     for sentence in refusals:
         streams.say(COMMAND, sentence)
-    return streams.REFUSED if refusals else streams.WELL
+    remark(given.sheet, about_excess(curve.low, curve.high))
+    return streams.REFUSED if refusals else streams.SUCCESS
 
 
 # ---- picture
 
 def draw(given: argparse.Namespace) -> int:
-    drawn = picture(list(known_curve(given.sheet)), given.title).encode()
+    curve = known_curve(given.sheet)
+    drawn = picture(list(curve), given.title).encode()
     if given.output == "-":
         streams.write_output(drawn)
     else:
         streams.write_file(given.output, drawn)
-    return streams.WELL
+    remark(given.sheet, about_excess(curve.low, curve.high))
+    return streams.SUCCESS
 
 
 # ---- the command line
@@ -117,11 +127,11 @@ def add_picture(commands: argparse._SubParsersAction) -> None:
     parser.add_argument("--title", metavar="TEXT", type=title, default=DEFAULT_TITLE, help=f"what stands above it, else: {DEFAULT_TITLE}")
 
 
-def arguments(words: Optional[Sequence[str]]) -> argparse.Namespace:
+def arguments(words: Optional[Sequence[str]], version: Callable[[], str]) -> argparse.Namespace:
     parser = Parser(COMMAND, prog=called(COMMAND),
                     description="Yearly claim totals: the chance of each as a low and a high, proved to enclose it.",
-                    epilog=f"example:\n  {called(COMMAND)} level examples/poisson.txt 0.99\n\n{STATUS}")
-    parser.add_argument("--version", action=Version, command=COMMAND, find=library.version)
+                    epilog="\n".join(["example:", *(f"  {called(COMMAND)} {example}" for example in EXAMPLES), "", STATUS]))
+    parser.add_argument("--version", action=Version, command=COMMAND, find=version)
     commands = parser.add_subparsers(metavar="COMMAND", required=True)
     for add in add_table, add_level, add_picture:
         add(commands)
@@ -140,6 +150,6 @@ def answer(given: argparse.Namespace) -> int:
         return streams.REFUSED
 
 
-def main(words: Optional[Sequence[str]] = None) -> int:
+def main(words: Optional[Sequence[str]] = None, version: Callable[[], str] = library.version) -> int:
     """The status of a call with these words, without them those of the command line."""
-    return streams.status(COMMAND, lambda: answer(arguments(words)))
+    return streams.status(COMMAND, lambda: answer(arguments(words, version)))

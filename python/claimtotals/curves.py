@@ -95,6 +95,13 @@ class Curve:
     high: tuple[int, ...]
     bound: tuple[int, ...]
 
+    def __post_init__(self) -> None:
+        """Rows of whole numbers, equally long; else a ValueError."""
+        for name in "low", "high", "bound":
+            object.__setattr__(self, name, wholes(name, getattr(self, name), SIGNED))
+        if not len(self.low) == len(self.high) == len(self.bound):
+            raise ValueError(f"rows of {len(self.low)}, {len(self.high)} and {len(self.bound)} places")
+
     def __len__(self) -> int:
         return len(self.low)
 
@@ -133,7 +140,7 @@ def curve_refusal(weights: Iterable[int], number: int, place: int) -> Refused:
 def curve(job: Job, weights: Iterable[int]) -> Curve:
     """The chance of each total from 0 to the job's last, where claims of the sizes 1, 2 and so on have these weights; Refused where the job
     or the weights are outside the limits."""
-    job, weights = job.checked(), wholes("weights", weights)
+    job, weights = Job(*job).checked(), wholes("weights", weights)
     table = row(weights, UNSIGNED)
     low, high, bound = ((SIGNED * library.TOTALS)() for _ in range(3))
     work, place = (SIGNED * library.WORK)(), c_size_t()
@@ -150,6 +157,8 @@ def quantile(low: Iterable[int], high: Iterable[int], level: int) -> Quantile:
     """The level query on rows of any lows and highs: `sure` is the smallest total at which the lows, added up from total 0 on, come to the
     level or more, `possible` the smallest at which the highs do. Refused where the lows never do, or where the rows are none of a curve."""
     lows, highs = row(wholes("low", low, SIGNED), SIGNED), row(wholes("high", high, SIGNED), SIGNED)
+    if isinstance(level, float):
+        raise ValueError(f"level: {level!r} is no whole number of units; one unit is a billionth, and 0.99 is 990_000_000")
     level = whole("level", level, SIGNED)
     place, sure, possible = c_size_t(), c_size_t(), c_size_t()
     number = library.calls().claimtotals_quantile(

@@ -23,8 +23,8 @@ NAME = "libclaimtotals.so"
 BYTES = ctypes.c_char_p
 
 
-def row(kind: type) -> tuple:
-    """A row and the number of its places."""
+def row_types(kind: type) -> tuple:
+    """Those of a row and of the number of its places."""
     return POINTER(kind), c_size_t
 
 
@@ -32,16 +32,16 @@ def row(kind: type) -> tuple:
 CALLS = {
     "claimtotals_version": (c_uint64, []),
     "claimtotals_curve": (c_uint64, [
-        c_uint64, c_uint64, POINTER(c_int64), POINTER(c_int64), c_uint64, c_uint64, c_uint64, *row(c_uint64), *row(c_int64), *row(c_int64),
-        *row(c_int64), *row(c_int64), POINTER(c_size_t),
+        c_uint64, c_uint64, POINTER(c_int64), POINTER(c_int64), c_uint64, c_uint64, c_uint64, *row_types(c_uint64), *row_types(c_int64),
+        *row_types(c_int64), *row_types(c_int64), *row_types(c_int64), POINTER(c_size_t),
     ]),
     "claimtotals_read_sheet": (c_uint64, [
-        BYTES, c_size_t, *row(c_uint64), POINTER(c_size_t), POINTER(c_uint64), POINTER(c_uint64), POINTER(c_int64), POINTER(c_int64),
+        BYTES, c_size_t, *row_types(c_uint64), POINTER(c_size_t), POINTER(c_uint64), POINTER(c_uint64), POINTER(c_int64), POINTER(c_int64),
         POINTER(c_uint64), POINTER(c_uint64), POINTER(c_uint64), POINTER(c_size_t),
     ]),
     "claimtotals_faulty_word": (None, [BYTES, c_size_t, c_size_t, POINTER(c_size_t), POINTER(c_size_t)]),
     "claimtotals_quantile": (c_uint64, [
-        *row(c_int64), *row(c_int64), c_int64, POINTER(c_size_t), POINTER(c_size_t), POINTER(c_size_t),
+        *row_types(c_int64), *row_types(c_int64), c_int64, POINTER(c_size_t), POINTER(c_size_t), POINTER(c_size_t),
     ]),
 }
 
@@ -51,7 +51,10 @@ def open_library(path: pathlib.Path, names: Iterable[str] = CALLS) -> ctypes.CDL
     it cuts what has more than 64 bits, without a word: `numbers` sees to that."""
     library = ctypes.CDLL(str(path))
     for name in names:
-        call = getattr(library, name)
+        try:
+            call = getattr(library, name)
+        except AttributeError:
+            raise OSError(f"{path} has no {name}: it is another version's, and is to be built anew") from None
         call.restype, call.argtypes = CALLS[name]
     return library
 

@@ -16,7 +16,7 @@ COMMAND = "picture"
 # No number of a table has more digits; and no table more bytes: those of the heading, and 40 at most for each line.
 NUMBER = "(0|-?[1-9][0-9]{0,9})"
 LINE = re.compile(" ".join([NUMBER] * 4))
-MOST_BYTES = len(HEADING) + 1 + 40 * TOTALS
+MOST_TABLE_BYTES = len(HEADING) + 1 + 40 * TOTALS
 
 
 class Wrong(Exception):
@@ -36,8 +36,8 @@ def read_row(number: int, line: str, total: int) -> Row:
 
 
 def read_lines(text: bytes) -> list[str]:
-    if len(text) > MOST_BYTES:
-        raise Wrong(f"the text has more than {MOST_BYTES:,} bytes, and no table has")
+    if len(text) > MOST_TABLE_BYTES:
+        raise Wrong(f"the text has more than {MOST_TABLE_BYTES:,} bytes, and no table has")
     if not text.isascii():
         raise Wrong("the text has bytes that no table has")
     *lines, rest = text.decode().split("\n")
@@ -65,12 +65,12 @@ def run(words: Sequence[str]) -> int:
     parser.add_argument("--title", metavar="TEXT", type=title, default=DEFAULT_TITLE, help=f"what stands above it, else: {DEFAULT_TITLE}")
     given = parser.parse_args(words)
     try:
-        rows = read_table(streams.read_input(COMMAND, given.table, "a table", MOST_BYTES))
+        rows = read_table(streams.read_input(COMMAND, given.table, "a table", MOST_TABLE_BYTES))
     except Wrong as fault:
         streams.say(COMMAND, f"{streams.source(given.table)}: {fault}")
         return streams.REFUSED
     streams.write_output(picture(rows, given.title).encode())
-    return streams.WELL
+    return streams.SUCCESS
 
 
 def main(words: Sequence[str]) -> int:

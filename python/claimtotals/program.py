@@ -38,7 +38,7 @@ def arguments(words: Sequence[str], version: str) -> argparse.Namespace:
 
 def written(program: pathlib.Path, sheet: bytes) -> bytes:
     """What the program writes."""
-    with streams.told(str(program)):
+    with streams.reporting(str(program)):
         ended = subprocess.run([str(program)], input=sheet, stdout=subprocess.PIPE)
     if ended.returncode or not ended.stdout:
         raise streams.Failed(f"{program}: it ended with status {ended.returncode} and wrote {len(ended.stdout)} bytes")
@@ -77,7 +77,7 @@ def run(path: str, program: Callable[[], pathlib.Path]) -> int:
     remark = about_sums(low, high)
     if remark:
         streams.say(COMMAND, f"{streams.source(path)}: {remark}")
-    return streams.WELL
+    return streams.SUCCESS
 
 
 def main(words: Sequence[str], version: str, program: Callable[[], pathlib.Path]) -> int:

@@ -9,8 +9,9 @@ from typing import NamedTuple, Optional
 # A longer faulty word is cut where it is shown.
 MOST_SHOWN = 40
 
-# What a line (23) or a word (24) looks like, in the order in which it is looked for. The table has a remedy for each.
+# What a line (22, 23) or a word (24) looks like, in the order in which it is looked for. The table has a remedy for each.
 SEEN = {
+    22: {"line ends of old Macs": rb".*\r"},
     23: {
         "byte order mark": rb"\xef\xbb\xbf|\xff\xfe|\xfe\xff",
         "comment": rb".*(#|//)",
@@ -18,6 +19,7 @@ SEEN = {
         "indented": rb"[ \t]+\S",
         "tab": rb".*\t",
         "lower case": rb"(?=[A-Z]*[a-z])(?i:law|term|start|last|severity|w)( |$)",
+        "other separators": rb".*[,;\x80-\xff]",
         "spaces": rb".*(  | \r?$)",
     },
     24: {

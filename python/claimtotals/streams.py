@@ -5,12 +5,13 @@ import contextlib
 import os
 import signal
 import sys
+import traceback
 from typing import IO, Callable, Iterator
 
 from claimtotals.library import MOST_BYTES
 
 # Exit statuses.
-WELL, REFUSED, FAILED = 0, 1, 2
+SUCCESS, REFUSED, FAILED = 0, 1, 2
 
 INPUT, OUTPUT = "standard input", "standard output"
 
@@ -20,7 +21,7 @@ class Failed(Exception):
 
 
 @contextlib.contextmanager
-def told(name: str) -> Iterator[None]:
+def reporting(name: str) -> Iterator[None]:
     """What fails inside is told with this name, in the system's words."""
     try:
         yield
@@ -51,7 +52,9 @@ def status(command: str, run: Callable[[], int]) -> int:
     except (Failed, OSError) as fault:
         if str(fault):
             say(command, str(fault))
-        return FAILED
+    except Exception:  # a fault of ours; Python's own status for it would say that something was refused
+        traceback.print_exc()
+    return FAILED
 
 
 def on_one_line(text: str) -> str:
@@ -76,7 +79,7 @@ def read_bytes(file: IO, most: int) -> bytes:
 
 def read_input(command: str, path: str, what: str, most: int) -> bytes:
     """Of a file, or of standard input, where a person at a terminal is told what is waited for."""
-    with told(source(path)):
+    with reporting(source(path)):
         if path != "-":
             with open(path, "rb", buffering=0) as file:
                 return read_bytes(file, most)
@@ -100,12 +103,12 @@ def write_all(number: int, content: bytes) -> None:
 
 def write_output(content: bytes) -> None:
     """To standard output, and nothing more may follow."""
-    with told(OUTPUT):
+    with reporting(OUTPUT):
         if sys.stdout is None:
             raise OSError("it is closed")
         write_all(sys.stdout.fileno(), content)
 
 
 def write_file(path: str, content: bytes) -> None:
-    with told(source(path)):
+    with reporting(source(path)):
         write_all(os.open(path, os.O_WRONLY | os.O_CREAT | os.O_TRUNC, 0o666), content)

@@ -1,7 +1,7 @@
 """./claimtotals COMMAND .."""
 import sys
 
-from beginning import IS_REPOSITORY
+from bootstrap import IS_REPOSITORY, VERSION
 
 from claimtotals import command, library
 
@@ -14,4 +14,4 @@ def built():
 
 if IS_REPOSITORY:
     library.find = built
-sys.exit(command.main())
+sys.exit(command.main(version=lambda: VERSION))

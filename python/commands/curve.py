@@ -1,7 +1,7 @@
 """./curve [SHEET]"""
 import sys
 
-from beginning import IS_REPOSITORY, ROOT
+from bootstrap import IS_REPOSITORY, ROOT, VERSION
 
 from claimtotals import program
 
@@ -17,5 +17,4 @@ def released():
     return ROOT / "bin/curve"
 
 
-version = (ROOT / "VERSION").read_text().strip()
-sys.exit(program.main(sys.argv[1:], version, built if IS_REPOSITORY else released))
+sys.exit(program.main(sys.argv[1:], VERSION, built if IS_REPOSITORY else released))

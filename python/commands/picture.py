@@ -1,7 +1,7 @@
 """./picture [TABLE] [--title TEXT]"""
 import sys
 
-import beginning
+import bootstrap  # finds the package
 
 from claimtotals import printed
 

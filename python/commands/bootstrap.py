@@ -11,4 +11,5 @@ if sys.version_info < (3, 9):
 
 ROOT = pathlib.Path(__file__).resolve().parents[2]
 IS_REPOSITORY = (ROOT / "crates").is_dir()
+VERSION = (ROOT / "VERSION").read_text().strip()
 sys.path[:0] = [str(ROOT / "python"), str(ROOT / "library")]
