@@ -196,13 +196,13 @@ def check_changed_meanwhile(room):
 
 
 def check_two_at_once(room):
-    """The second waits for the first, and has nothing to build then."""
+    """The second says that it waits for the first, and has nothing to build then."""
     copy = Copy(room, "two")
     processes = [copy.start("curve", PAUSE="0.3") for _ in range(2)]
     outputs = [process.communicate(timeout=MOMENT) for process in processes]
     second, first = sorted((ended(process.returncode, *output) for process, output in zip(processes, outputs)), key=lambda one: one.said)
     hold_to_progress(first, needed(PROGRAM, LIBRARY))
-    hold(second, TABLE)
+    hold(second, TABLE._replace(said="another command is building here: waiting for it\n"))
     copy.hold_to_calls(2)
 
 
@@ -210,7 +210,7 @@ def check_nothing_needed(room):
     """Help, the version and a file that is not there need nothing that is built."""
     copy = Copy(room, "nothing needed")
     hold(copy.run("curve", "no such"), Asked(2, b"", "curve: no such: No such file or directory\n"))
-    for command, word in ("curve", "--help"), ("curve", "--version"), ("claimtotals", "--help"):
+    for command, word in ("curve", "--help"), ("curve", "--version"), ("claimtotals", "--help"), ("claimtotals", "--version"):
         found = copy.run(command, word)
         hold(found, Asked(0, found.out, ""))
     copy.hold_to_calls(0)
@@ -264,6 +264,20 @@ def check_library_build(room):
         raise Fault(f"it left {copy.library_files()}")
     hold_to_failure(copy.run("library/build", FAILS="model"), "error[unknown-name]", most=5)
     hold_to_no_library(copy)
+
+
+def check_library_folder(room):
+    """In a folder that is given other files stay, those of another version too; in the header's own nothing is built."""
+    copy, folder = Copy(room, "library elsewhere"), room / "given"
+    others = [folder / name for name in ("passed", "libclaimtotals.so.0.0", "notes")]
+    for path in others:
+        put(path, path.name)
+    hold(copy.run("library/build", folder), Asked(0, b"", ANYTHING))
+    if not all(path.exists() and path.read_text() == path.name for path in others) or not (folder / "libclaimtotals.so").exists():
+        raise Fault(f"it left {sorted(path.name for path in folder.iterdir())}")
+    hold_to_failure(copy.run("library/build", copy.folder / "library"), "has the header", most=1)
+    if not (copy.folder / "library/claimtotals.h").exists():
+        raise Fault("the header is gone")
 
 
 def check_no_room(room):
@@ -336,9 +350,24 @@ def check_damaged(room, part, command, *words):
         check_run(Asked(2, b"", rf"{command}: .*{re.escape(path.name)}.*\n"), path.parents[1] / command, *words, given=COIN_TOSS)
 
 
+def check_other_library(room):
+    """A library that lacks a call, as one of an older version does."""
+    folder = archive(room, "other library")
+    run("cc", "-shared", "-o", folder / "lib/libclaimtotals.so", "-x", "c", "/dev/null")
+    said = r"claimtotals: .*has no claimtotals_\w+: it is another version's.*\n"
+    check_run(Asked(2, b"", said), folder / "claimtotals", "table", "-", given=COIN_TOSS)
+
+
+def check_safe_path(room):
+    """Where Python is told not to look for modules beside a script."""
+    for command, *words in ["curve"], ["claimtotals", "table", "-"]:
+        check_run(TABLE, ROOT / command, *words, given=COIN_TOSS, env={**os.environ, "PYTHONSAFEPATH": "1"})
+
+
 def building_checks(room):
     alone = check_building, check_nothing_due, check_changed_meanwhile, check_two_at_once, check_nothing_needed, check_old_python, \
-        check_library_build, check_no_room, check_locked, check_stopped, check_archive
+        check_library_build, check_library_folder, check_no_room, check_locked, check_stopped, check_archive, \
+        check_other_library, check_safe_path
     for check in alone:
         yield check.__name__.replace("check_", "").replace("_", " "), partial(check, room)
     for tool in "rt", "cc", "python3":
