@@ -140,7 +140,7 @@ WORDS.read(ROOT / "python/claimtotals/refusals.ini", encoding="utf-8")
 PLACES = {3: "term", 9: "total", 10: "total", **{number: "line" for number in range(22, 28)}}
 
 
-def words(number, key):
+def phrase(number, key):
     return " ".join(WORDS[str(number)][key].split())
 
 
@@ -180,8 +180,8 @@ def refused_line(command, file, sheet, remedy="remedy"):
     """A pattern for the line that tells a refusal; `remedy` is the key of the words that fit this sheet."""
     number, place = refusal(sheet)
     where = f", {PLACES[number]} {place}" if number in PLACES else ""
-    head = f"{command}: {file}{where}: refused by {number}: {words(number, 'why')}"
-    return re.escape(head) + seen_there(number, sheet) + re.escape(f". {words(number, remedy)}\n")
+    head = f"{command}: {file}{where}: refused by {number}: {phrase(number, 'why')}"
+    return re.escape(head) + seen_there(number, sheet) + re.escape(f". {phrase(number, remedy)}\n")
 
 
 def decimal(units):
