@@ -198,11 +198,12 @@ def check_changed_meanwhile(room):
 def check_two_at_once(room):
     """The second says that it waits for the first, and has nothing to build then."""
     copy = Copy(room, "two")
-    processes = [copy.start("curve", PAUSE="0.3") for _ in range(2)]
-    outputs = [process.communicate(timeout=MOMENT) for process in processes]
-    second, first = sorted((ended(process.returncode, *output) for process, output in zip(processes, outputs)), key=lambda one: one.said)
-    hold_to_progress(first, needed(PROGRAM, LIBRARY))
-    hold(second, TABLE._replace(said="another command is building here: waiting for it\n"))
+    first = copy.start("curve", PAUSE="0.7")
+    begins = first.stderr.readline()
+    second = copy.start("curve")
+    outputs = [process.communicate(timeout=MOMENT) for process in (first, second)]
+    hold_to_progress(ended(first.returncode, outputs[0][0], begins + outputs[0][1]), needed(PROGRAM, LIBRARY))
+    hold(ended(second.returncode, *outputs[1]), TABLE._replace(said="another command is building here: waiting for it\n"))
     copy.hold_to_calls(2)
 
 
