@@ -3,9 +3,9 @@
     library/build
     PYTHONPATH=python python3 examples/calls/table.py examples/poisson.txt
 
-Where the wheel is installed neither library/build nor PYTHONPATH is needed. The table goes to standard output, and after it the totals for
-the level below. A refusal goes to standard error, and the exit status is then 1; it is 2 where the file cannot be read or the table cannot
-be written."""
+The archive of a release has the library, and where the wheel is installed PYTHONPATH is not needed either. The table goes to standard
+output, and after it the totals for the level below. A refusal goes to standard error, and the exit status is then 1; it is 2 where the file
+cannot be read or the table cannot be written."""
 import sys
 
 import claimtotals

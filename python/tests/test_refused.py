@@ -176,6 +176,15 @@ class Remedies(unittest.TestCase):
         for weights, told in ([600, 601], "1,201"), ([0], "0"), ([2 ** 64 - 1, 2], "18,446,744,073,709,551,617"):
             self.assertTrue(raised(lambda: curve(JOB, weights)).why.endswith(f"; it is {told}"))
 
+    def test_smaller_gap(self):
+        """The chance of no claims in 9 trials of 9/10 is one unit: given as s and t it helps where a unit more is refused by 10."""
+        def nine_trials(high):
+            return curve(Job.of(1, [(-9, 90)], (1, high), 14), [1, 1])
+
+        self.assertEqual(raised(lambda: nine_trials(2)).number, 10)
+        self.assertEqual(len(nine_trials(1)), 15)
+        self.assertIn("a chance of no claims that is a whole number of units", raised(lambda: nine_trials(2)).remedy)
+
     def test_start(self):
         """A start below a unit cannot be mended by another."""
         self.assertIn("START 0 1, cannot be mended by another start", raised(CASES[10][3]).remedy)
