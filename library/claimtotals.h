@@ -5,7 +5,7 @@
 
    Every call takes numbers of any content and rows of any length. claimtotals_faulty_word and claimtotals_version refuse nothing. Each
    other call answers with a number: 0 for an acceptance, else that of the refusal, the first in the order of the lists below that holds.
-   Where a call refuses, its place is 0 and it has written nothing but that place, unless its list says otherwise.
+   Where a call refuses, its place, if it has one, is 0 and it has written nothing but that place, unless its list says otherwise.
 
    What the caller owes: a pointer is not null and is aligned for its type; NAME_length is the number of places of the row NAME (0 is
    allowed); what a call writes to overlaps nothing else that it is given; and no other thread writes to any of it during the call. The
@@ -31,6 +31,32 @@ extern "C" {
 #define CLAIMTOTALS_WEIGHTS 500
 #define CLAIMTOTALS_TOTALS 501
 #define CLAIMTOTALS_WORK (9 * CLAIMTOTALS_TOTALS)
+
+/* The start of a Poisson law, from its mean: U times e to the -r/s lies from low to high.
+
+   upper, lower  r and s: the mean is r/s
+   low, high     the start: what claimtotals_curve takes as start_low and start_high
+
+   0    accepted
+   41   the lower number of the fraction is not 1 to 1,000, or a mean is above 20
+
+   After a refusal low and high are 0. */
+uint64_t claimtotals_start_mean(uint64_t upper, uint64_t lower, uint64_t *low, uint64_t *high);
+
+/* The start of a binomial law, or of a negative binomial law of whole shape: U times (1 - r/s)^N lies from low to high.
+
+   upper, lower  r and s: of a binomial law the chance r/s of a claim in one trial; of a negative binomial law the chance r/s with which
+                 (1 - r/s)^N is its chance of no claims, and not the one that some texts write p where this has 1 - p
+   trials        N, the number of trials, or the shape
+   low, high     as with claimtotals_start_mean
+
+   0    accepted
+   41   the lower number of the fraction is not 1 to 1,000, or a mean is above 20
+   42   the chance is 1 or more
+   43   the number of trials is not 1 to 1,000
+
+   After a refusal low and high are 0. A chance is no mean: one above 20 is refused by 42. */
+uint64_t claimtotals_start_trials(uint64_t upper, uint64_t lower, uint64_t trials, uint64_t *low, uint64_t *high);
 
 /* The curve of a job: low, high and bound of each total from 0 to X.
 

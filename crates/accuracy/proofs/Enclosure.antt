@@ -1,17 +1,17 @@
 -- Every entry of the curve's rows encloses the exact entry. The exact rows follow the same recursion over the rational numbers, and there
 -- sums, factors and outward divisions keep a number between two ends.
-use mathlib.Core.Path.{_≡_, sym, _∙_, ap}
+use mathlib.Core.Path.{_≡_}
 use mathlib.Core.List.{List}
 use Prim.Native.Nat.{ℕ, zero, suc, _≤_, _<_}
 use native.Mathlib.Nat as NL
-use lib.IntN.{ℤ, pos, negsuc, _*ℤ_}
+use lib.IntN.{ℤ, pos, negsuc}
 use Rattle.algebra.specs.Fraction.{Fraction, whole, _≼_}
 use Rattle.algebra.specs.Order.{OrderedRing}
 use Rattle.algebra.specs.Ring.{int}
 use Rattle.algebra.specs.Semiring.{Semiring, nat}
 use Rattle.algebra.proofs.Integer.{signed}
-use Rattle.algebra.proofs.Ring.{int-pos, int-add, int-mul}
-use Rattle.algebra.proofs.Order.{add-mono, mul-mono, mul-turn, mul-cancel-le, int-mono}
+use Rattle.algebra.proofs.Ring.{int-add, int-mul}
+use Rattle.algebra.proofs.Order.{add-mono, mul-mono, mul-turn, int-mono}
 use Rattle.algebra.proofs.Value.{order, ℚ, value, value-le, le-of-value, value-int}
 use Rattle.model.specs.declared.Job.{Job}
 use Rattle.exact.specs.Frequency.{Frequency}
@@ -20,7 +20,7 @@ use Rattle.exact.specs.Recursion.{wholeFactor}
 use Rattle.exact.proofs.Amount.{valueRow, value-amount}
 use Rattle.exact.proofs.Recursion.{recursion-value, convolution-value, first-value, first-further}
 use Rattle.exact.specs.JobAmount.{Divisible, frequency, severity, amount}
-use Rattle.outward.proofs.Division.{floor-is, ceil-is}
+use Rattle.outward.proofs.Enclosed.{floor-le, le-ceil}
 use Rattle.enclosure.specs.declared.Entry.{Entry}
 use Rattle.enclosure.specs.Entry.{none, plus, scaled, rounded}
 use Rattle.rows.specs.Curve.{factor, firstEntry, curveRows}
@@ -71,19 +71,11 @@ within-scaled (negsuc n) e v w = record {
 }
 
 -- ---- a division
--- a factor of at least 1 cancels
-cancel : (d : ℕ) (a b : A) → 1 ≤ d → nat ℚ d · a ⊑ nat ℚ d · b → a ⊑ b
-cancel zero a b l h = absurd (NL.not-suc-le-zero l)
-cancel (suc d) a b l h = mul-cancel-le order d h
-
-product : (d : ℕ) (z : ℤ) → nat ℚ d · integer z ≡ integer (pos d *ℤ z)
-product d z = sym (int-mul (order .ring) (pos d) z ∙ ap (λ (v : A). v · integer z) (int-pos (order .ring) d))
-
 within-rounded : (d : ℕ) (e : Entry) (s v : A) → 1 ≤ d → Within e s → nat ℚ d · v ≡ s → Within (rounded d e) v
 unfolding rounded
 within-rounded d e s v l w q = record {
-  below = cancel d _ _ l (rw (q, product) (order .le-trans (int-mono order (floor-is (e .low) d l .0)) (w .below)));
-  above = cancel d _ _ l (rw (q, product) (order .le-trans (w .above) (int-mono order (ceil-is (e .high) d l .0))));
+  below = floor-le order (e .low) d l (rw q (w .below));
+  above = le-ceil order (e .high) d l (rw q (w .above));
 }
 
 abbrev enclosing : Preserved A Within

@@ -113,6 +113,13 @@ split-size (negsuc n) = omega arith
 -- `omega signed` reads orders and equations over ℤ; the sums and products in them are listed: `omega (signed, split-add a b)`
 pub ruleset signed = (arith, split-le, split-lt, split-eq, le-of-split, lt-of-split, eq-of-split)
 
+-- natural numbers keep their order
+pub pos-mono : {m n : ℕ} → m ≤ n → pos m ≤ℤ pos n
+pos-mono h = omega signed
+
+pub of-pos : {m n : ℕ} → pos m ≤ℤ pos n → m ≤ n
+of-pos h = omega signed
+
 -- ---- the ring
 scaled : {m n : ℕ} (k : ℕ) → m ≡ n → m * k ≡ n * k
 scaled k e = ap (λ (x : ℕ). x * k) e

@@ -2,7 +2,8 @@
 -- solver turns one form of a difference into another.
 use mathlib.Core.Path.{_≡_, refl, sym, _∙_, ap, subst₂}
 use mathlib.Core.List.{[], _∷_}
-use Prim.Native.Nat.{ℕ, zero, suc, _<_, _+_, _-_}
+use Prim.Native.Nat.{ℕ, zero, suc, _≤_, _<_, _+_, _-_}
+use native.Mathlib.Nat as NL
 use lib.IntN.{ℤ, pos, _+ℤ_}
 use lib.Signed.{_≤ℤ_}
 use Rattle.algebra.specs.Semiring.{Semiring, nat}
@@ -14,7 +15,7 @@ use Rattle.algebra.proofs.Semiring.{nat-zero, nat-suc}
 use Rattle.algebra.proofs.Ring.{int-pos, int-add}
 use Rattle.algebra.proofs.Solver.{solve}
 use Rattle.algebra.proofs.Sum.{sum-related}
-use Rattle.algebra.proofs.Integer.{up, down, signed, split-add}
+use Rattle.algebra.proofs.Integer.{up, down, signed, split-add, pos-mono}
 
 module _ (O : OrderedRing) where
   open OrderedRing O using (_⊑_)
@@ -74,8 +75,9 @@ module _ (O : OrderedRing) where
   nat-nonneg (suc n) = rewritten (add-mono (nat-nonneg n) one-nonneg) (R .semiring .add-zero 𝟘) (sym (nat-suc (R .semiring) n))
 
   -- a positive natural factor may be divided out: were b below a, the difference would grow by the factor
-  pub mul-cancel-le : {a b : A} (n : ℕ) → nat (R .semiring) (suc n) · a ⊑ nat (R .semiring) (suc n) · b → a ⊑ b
-  mul-cancel-le {a} {b} n h = by (O .le-dec a b)
+  pub cancel-le : {a b : A} (n : ℕ) → 1 ≤ n → nat (R .semiring) n · a ⊑ nat (R .semiring) n · b → a ⊑ b
+  cancel-le zero l h = absurd (NL.not-suc-le-zero l)
+  cancel-le {a} {b} (suc n) l h = by (O .le-dec a b)
     where
       m : A
       m = nat (R .semiring) n
@@ -92,6 +94,9 @@ module _ (O : OrderedRing) where
           let grown : 𝟘 ⊑ m · (a ⊹ neg b) = O .mul-nonneg (nat-nonneg n) d in
           of-difference (rewritten (add-mono grown (difference h′)) (R .semiring .add-zero 𝟘) (shrunk a b m))
 
+  pub cancel-eq : {a b : A} (n : ℕ) → 1 ≤ n → nat (R .semiring) n · a ≡ nat (R .semiring) n · b → a ≡ b
+  cancel-eq n l e = O .le-antisymm (cancel-le n l (le-of-eq e)) (cancel-le n l (le-of-eq (sym e)))
+
   -- terms in order, sums in order
   pub sum-mono : (n : ℕ) {f g : ℕ → A} → ((i : ℕ) → i < n → f i ⊑ g i) → sum (R .semiring) n f ⊑ sum (R .semiring) n g
   sum-mono n {f} {g} h = sum-related _⊑_ 𝟘 _⊹_ 𝟘 _⊹_ (O .le-refl 𝟘) (λ a c b d p q. add-mono p q) n f g h
@@ -106,3 +111,6 @@ module _ (O : OrderedRing) where
 
       risen : b ≡ a +ℤ pos rise
       risen = omega (signed, split-add a (pos rise))
+
+  pub nat-mono : {m n : ℕ} → m ≤ n → nat (R .semiring) m ⊑ nat (R .semiring) n
+  nat-mono {m} {n} h = rewritten (int-mono (pos-mono h)) (int-pos R m) (int-pos R n)

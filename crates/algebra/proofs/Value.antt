@@ -10,7 +10,7 @@ use Rattle.algebra.specs.Semiring.{Semiring, nat}
 use Rattle.algebra.specs.Ring.{int}
 use Rattle.algebra.specs.Order.{OrderedRing}
 use Rattle.algebra.specs.Sum.{accumulate, sum, sumℤ}
-use Rattle.algebra.specs.Fraction.{Fraction, over, whole, _⊕_, _⊗_, overSuc, _≈_, _≼_, oneTo, zeroTo}
+use Rattle.algebra.specs.Fraction.{Fraction, over, whole, _⊕_, _⊗_, overSuc, _≈_, _≼_, oneTo, zeroTo, product}
 use Rattle.algebra.proofs.Semiring.{ring, ring-units, nat-zero, nat-suc}
 use Rattle.algebra.proofs.Ring.{neg-unique}
 use Rattle.algebra.proofs.Integer.{integers, signed, split-add, *ℤ-mono, *ℤ-cancel-le}
@@ -131,6 +131,15 @@ value-oneTo n g = value-accumulate n (λ i. g (suc i))
 pub value-zeroTo : (n : ℕ) (g : ℕ → Fraction) → value (zeroTo n g) ≡ sum ℚ (suc n) (λ i. value (g i))
 unfolding zeroTo
 value-zeroTo n g = value-accumulate (suc n) g
+
+-- ---- products
+pub product-zero : (g : ℕ → Fraction) → value (product 0 g) ≡ 𝟙
+unfolding product accumulate
+product-zero g = value-one
+
+pub product-suc : (n : ℕ) (g : ℕ → Fraction) → value (product (suc n) g) ≡ value (product n g) · value (g n)
+unfolding product accumulate
+product-suc n g = value-times (accumulate (whole (pos 1)) _⊗_ n g) (g n)
 
 -- ---- the order of fractions, as that of their values
 pub ≼-refl : (x : Fraction) → x ≼ x

@@ -57,3 +57,11 @@ oneTo n g = accumulate (whole (pos 0)) _⊕_ n (λ i. g (suc i))
 -- g 0 + .. + g n
 unfoldable pub zeroTo : ℕ → (ℕ → Fraction) → Fraction
 zeroTo n g = accumulate (whole (pos 0)) _⊕_ (suc n) g
+
+-- g 0 times g 1 times .. times g (n - 1)
+unfoldable pub product : ℕ → (ℕ → Fraction) → Fraction
+product n g = accumulate (whole (pos 1)) _⊗_ n g
+
+-- x to the n
+abbrev pub power : Fraction → ℕ → Fraction
+power x n = product n (λ _. x)

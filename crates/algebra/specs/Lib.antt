@@ -4,6 +4,7 @@ pub mod Semiring
 pub mod Ring
 pub mod Order
 pub mod Sum
+pub mod Alternating
 pub mod Fraction
 pub mod Rational
 pub mod Size

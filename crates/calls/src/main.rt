@@ -6,6 +6,7 @@ mod input;
 mod level;
 mod reader;
 mod show;
+mod starts;
 
 // One record; false at the end of the input, where the kind is 0.
 fn next_call() -> bool {
@@ -13,6 +14,8 @@ fn next_call() -> bool {
         1 => reader::run(),
         2 => curve::run(),
         3 => level::run(),
+        4 => starts::run_mean(),
+        5 => starts::run_trials(),
         _ => return false,
     }
     true

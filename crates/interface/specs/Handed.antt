@@ -1,13 +1,14 @@
 -- Answers and jobs handed over number by number.
 use mathlib.Core.List.{List}
 use Prim.Native.Nat.{ℕ}
-use lib.IntN.{ℤ}
+use lib.IntN.{ℤ, pos}
 use lib.ListN.{take}
 use Rattle.model.specs.declared.Job.{Job}
 use Rattle.model.specs.Job.{lawOf, startOf, jobOf}
 use Rattle.model.specs.Answer.{Answer}
 use Rattle.quantile.specs.Call.{Quantiles}
 use Rattle.sheet.specs.Call.{Told}
+use Rattle.start.specs.Call.{Started}
 
 -- a call returns the number of its answer, 0 for an acceptance, and the place goes into a lent number
 abbrev pub returned : ℕ → ℕ → Answer
@@ -24,3 +25,7 @@ tells answer job count row = record { answer = answer; job = job; count = count;
 -- what the level query tells
 abbrev pub totals : Answer → ℕ → ℕ → Quantiles
 totals answer sure possible = record { answer = answer; sure = sure; possible = possible }
+
+-- what the calls for a start tell
+abbrev pub ends : Answer → ℕ → ℕ → Started
+ends answer low high = record { answer = answer; ends = record { low = pos low; high = pos high } }

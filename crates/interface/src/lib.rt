@@ -4,4 +4,5 @@
 pub mod curve;
 pub mod level;
 pub mod reader;
+pub mod starts;
 pub mod version;

@@ -1,12 +1,15 @@
 -- The floor by the division with remainder of natural numbers, at each sign; the ceiling is the floor with the signs turned.
-use Prim.Native.Nat.{ℕ, zero, suc, _/_, _≤_, zero-le, suc-le-suc}
+use mathlib.Core.Path.{_≡_, refl}
+use Prim.Native.Nat.{ℕ, zero, suc, _+_, _*_, _/_, _≤_, _<_, zero-le, suc-le-suc}
 use native.Mathlib.Nat.{mul-div-le, lt-mul-div-succ, div-le-self, zero-div}
+use native.Mathlib.Omega.{arith}
 use lib.Dec.{le→leb}
 use lib.IntN.{ℤ, pos, negsuc, negℤ, natAbs, _+ℤ_, _*ℤ_}
 use lib.Signed.{_≤ℤ_, _<ℤ_, leZ-yes}
 use Rattle.algebra.proofs.Integer.{integers, signed, split-add, split-mul, split-neg}
 use Rattle.algebra.proofs.Ring.{mul-neg}
 use Rattle.algebra.proofs.Size.{size-neg}
+use Rattle.outward.specs.declared.Interval.{Interval}
 use Rattle.outward.specs.Division.{floorDiv, ceilDiv, FloorIs, CeilIs}
 
 pub floor-is : FloorIs
@@ -45,3 +48,22 @@ unfolding ceilDiv floorDiv
 ceil-nonneg (pos zero) n h = rw (zero-div n) h
 ceil-nonneg (pos (suc a)) n h = leZ-yes (le→leb 0 (suc (a / n)) zero-le)
 ceil-nonneg (negsuc a) n h = absurd (h .le)
+
+-- ---- the ceiling of natural numbers
+unfoldable pub ceilℕ : ℕ → ℕ → ℕ
+ceilℕ zero n = 0
+ceilℕ (suc a) n = suc (a / n)
+
+pub ceil-pos : (a n : ℕ) → ceilDiv (pos a) n ≡ pos (ceilℕ a n)
+unfolding ceilDiv floorDiv ceilℕ
+ceil-pos zero n = rw (zero-div n)
+ceil-pos (suc a) n = refl
+
+pub ceilℕ-is : (a n : ℕ) → 1 ≤ n → (a ≤ n * ceilℕ a n) × (n * ceilℕ a n < a + n)
+unfolding ceilℕ
+ceilℕ-is zero n l = (zero-le, omega arith)
+ceilℕ-is (suc a) n l = (omega (arith, lt-mul-div-succ a l), omega (arith, mul-div-le a n))
+
+-- ---- an interval, end by end
+pub same-ends : {l l′ h h′ : ℤ} → l ≡ l′ → h ≡ h′ → _≡_ {A = Interval} (record { low = l; high = h }) (record { low = l′; high = h′ })
+same-ends p q = λ i. record { low = p i; high = q i }

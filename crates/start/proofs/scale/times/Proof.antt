@@ -1,0 +1,41 @@
+-- The quotients are what the call ensures, of the products, since these fit.
+use borrow.Author.Needs.{needs}
+use mir.Facts.{toZ-ofZ}
+use Rattle.start.specs.Step.{times}
+use Rattle.outward.proofs.Division.{same-ends}
+use Rattle.start.proofs.Sizes.{Products, products}
+use Rattle.start.proofs.scale.times.Statement.{statement}
+use Rattle.start.proofs.scale.times.Tie as tie
+use Rattle.start.proofs.scale.times.Reads as reads
+use Rattle.start.proofs.scale.times.Lts as lts
+use Rattle.outward.proofs.divide.Reads as divide-reads
+
+sizes : (c : tie.Start) → Products (c .args .factor) (c .args .ends)
+sizes c = products (c .args .factor) (c .args .ends) (c .pre .0) (c .pre .1)
+
+mul-divide : tie.Need-mul-divide
+mul-divide c =
+    let k = sizes (c .before .before .before) in
+    let low = k .low-fits in
+    simp (toZ-ofZ, k .factor-low) (k .low-product)
+
+mul-divide-2 : tie.Need-mul-divide-2
+mul-divide-2 c =
+    let k = sizes (c .before .before .before .before .before .before) in
+    let high = k .high-fits in
+    simp (toZ-ofZ, k .factor-high) (k .high-product)
+
+returns : tie.Need-returns
+unfolding times
+returns c =
+    let k = sizes (c .before .before .before .before .before .before .before) in
+    let low = k .low-fits in
+    let high = k .high-fits in
+    let low-product = k .low-product in
+    let high-product = k .high-product in
+    let ends = simp (toZ-ofZ, k .factor-low, k .factor-high) at (c .divide .ensures) in
+    same-ends (ends .0) (ends .1)
+
+pub times-spec : {M : Type 1} → statement M
+times-spec =
+    tie.close (tie.spec (λ c. search needs) mul-divide (λ c. search needs) mul-divide-2 (λ c κs. search needs) returns)
