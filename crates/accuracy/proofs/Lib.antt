@@ -4,3 +4,4 @@ pub mod Gap
 pub mod Bounds
 pub mod Accuracy
 pub mod Query
+pub mod GivenStart
