@@ -1,11 +1,12 @@
 -- The statements: an accepted job is within the limits and shows row 0 of the curve, of which the other files speak.
 use mathlib.Core.Path.{sym, subst, subst₂}
 use native.Mathlib.Omega.{arith}
+use Rattle.algebra.specs.Fraction.{Between}
 use Rattle.exact.specs.JobAmount.{amount}
 use Rattle.rows.proofs.Filled.{sums-fit}
 use Rattle.compound.proofs.Accepted.{limits, no-fault, shows}
 use Rattle.accuracy.specs.Accuracy.{AcceptedDivisible, ShowsCurve, AcceptedSumsFit, Encloses, GapWithinBound, SameBounds}
-use Rattle.accuracy.proofs.Enclosure.{Between, amount-enclosed}
+use Rattle.accuracy.proofs.Enclosure.{amount-enclosed}
 use Rattle.accuracy.proofs.Gap.{Narrow, narrow}
 use Rattle.accuracy.proofs.Bounds.{SameBound, bounds}
 
@@ -22,7 +23,7 @@ accepted-sums-fit job weights lent ok x h = sums-fit job weights (limits job wei
     (λ z l. no-fault job weights lent ok z (omega arith))
 
 pub encloses : Encloses
-encloses job weights lent ok h x l p s t = subst (λ e. Between e (amount job weights h p x)) (sym (shows job weights lent ok x l))
+encloses job weights lent ok h x l p s t = subst (λ e. Between (e .low) (e .high) (amount job weights h p x)) (sym (shows job weights lent ok x l))
     (amount-enclosed job weights h p (s, t) (limits job weights lent ok .law .order-least) x)
 
 pub gap-within-bound : GapWithinBound

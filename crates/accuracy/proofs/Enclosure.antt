@@ -3,16 +3,15 @@
 use mathlib.Core.Path.{_≡_}
 use mathlib.Core.List.{List}
 use Prim.Native.Nat.{ℕ, zero, suc, _≤_, _<_}
-use native.Mathlib.Nat as NL
 use lib.IntN.{ℤ, pos, negsuc}
-use Rattle.algebra.specs.Fraction.{Fraction, whole, _≼_}
+use Rattle.algebra.specs.Fraction.{Fraction, Between}
 use Rattle.algebra.specs.Order.{OrderedRing}
 use Rattle.algebra.specs.Ring.{int}
 use Rattle.algebra.specs.Semiring.{Semiring, nat}
 use Rattle.algebra.proofs.Integer.{signed}
 use Rattle.algebra.proofs.Ring.{int-add, int-mul}
 use Rattle.algebra.proofs.Order.{add-mono, mul-mono, mul-turn, int-mono}
-use Rattle.algebra.proofs.Value.{order, ℚ, value, value-le, le-of-value, value-int}
+use Rattle.algebra.proofs.Value.{order, ℚ, Within, within-value, of-within}
 use Rattle.model.specs.declared.Job.{Job}
 use Rattle.exact.specs.Frequency.{Frequency}
 use Rattle.exact.specs.Severity.{Severity}
@@ -36,15 +35,14 @@ abbrev integer : ℤ → A
 integer = int (order .ring)
 
 -- v lies from the low to the high of e
-record Within (e : Entry) (v : A) : Type 0 where
-  below : integer (e .low) ⊑ v
-  above : v ⊑ integer (e .high)
+abbrev Inside : Entry → A → Type 0
+Inside e v = Within (e .low) (e .high) v
 
-within-none : Within none 𝟘
+within-none : Inside none 𝟘
 unfolding int nat
 within-none = record { below = order .le-refl 𝟘; above = order .le-refl 𝟘 }
 
-within-plus : (e f : Entry) (u v : A) → Within e u → Within f v → Within (plus e f) (u ⊹ v)
+within-plus : (e f : Entry) (u v : A) → Inside e u → Inside f v → Inside (plus e f) (u ⊹ v)
 within-plus e f u v p q = record {
   below = rw int-add (add-mono order (p .below) (q .below));
   above = rw int-add (add-mono order (p .above) (q .above));
@@ -59,7 +57,7 @@ nonpos : (n : ℕ) → integer (negsuc n) ⊑ 𝟘
 unfolding int nat
 nonpos n = int-mono order {a = negsuc n} {b = pos 0} (omega signed)
 
-within-scaled : (z : ℤ) (e : Entry) (v : A) → Within e v → Within (scaled z e) (integer z · v)
+within-scaled : (z : ℤ) (e : Entry) (v : A) → Inside e v → Inside (scaled z e) (integer z · v)
 unfolding scaled
 within-scaled (pos n) e v w = record {
   below = rw int-mul (mul-mono order (integer (pos n)) (nonneg n) (w .below));
@@ -71,14 +69,14 @@ within-scaled (negsuc n) e v w = record {
 }
 
 -- ---- a division
-within-rounded : (d : ℕ) (e : Entry) (s v : A) → 1 ≤ d → Within e s → nat ℚ d · v ≡ s → Within (rounded d e) v
+within-rounded : (d : ℕ) (e : Entry) (s v : A) → 1 ≤ d → Inside e s → nat ℚ d · v ≡ s → Inside (rounded d e) v
 unfolding rounded
 within-rounded d e s v l w q = record {
   below = floor-le order (e .low) d l (rw q (w .below));
   above = le-ceil order (e .high) d l (rw q (w .above));
 }
 
-abbrev enclosing : Preserved A Within
+abbrev enclosing : Preserved A Inside
 enclosing = record {
   nought = 𝟘;
   add = _⊹_;
@@ -90,26 +88,17 @@ enclosing = record {
   by-rounded = within-rounded;
 }
 
--- ---- from fractions to rational numbers and back
-abbrev pub Between : Entry → Fraction → Type 0
-Between e q = (whole (e .low) ≼ q) × (q ≼ whole (e .high))
-
-within-value : (e : Entry) (q : Fraction) → Between e q → Within e (value q)
-within-value e q (s, t) = record { below = rw (← value-int) (value-le s); above = rw (← value-int) (value-le t) }
-
-of-within : (e : Entry) (q : Fraction) → Within e (value q) → Between e q
-of-within e q w = (le-of-value (rw value-int (w .below)), le-of-value (rw value-int (w .above)))
-
 -- ---- all entries
-module _ (job : Job) (weights : List ℕ) (h : Divisible job weights) (p : Fraction) (start : Between (firstEntry (job .start) 0) p) where
+module _ (job : Job) (weights : List ℕ) (h : Divisible job weights) (p : Fraction)
+    (start : Between (firstEntry (job .start) 0 .low) (firstEntry (job .start) 0 .high) p) where
   abbrev law : Frequency
   law = frequency (job .law) (h .divisor-pos)
 
   abbrev table : Severity
   table = severity weights (h .total-pos)
 
-  first-within : (j : ℕ) → Within (firstEntry (job .start) j) (valueRow law table p j 0)
-  first-within zero = rw first-value (within-value (firstEntry (job .start) 0) p start)
+  first-within : (j : ℕ) → Inside (firstEntry (job .start) j) (valueRow law table p j 0)
+  first-within zero = rw first-value (within-value _ _ p start)
   first-within (suc j) = rw first-further within-none
 
   exact-follows : Follows enclosing job weights (valueRow law table p)
@@ -121,9 +110,10 @@ module _ (job : Job) (weights : List ℕ) (h : Divisible job weights) (p : Fract
   }
 
   -- the rows 0 to k - 1
-  enclosed : (x j : ℕ) → j < job .law .order → Within (curveRows job weights j x) (valueRow law table p j x)
+  enclosed : (x j : ℕ) → j < job .law .order → Inside (curveRows job weights j x) (valueRow law table p j x)
   enclosed = all-preserved enclosing job weights (divisors-pos (job .law) weights (h .divisor-pos) (h .total-pos)) (valueRow law table p)
       exact-follows
 
-  pub amount-enclosed : 0 < job .law .order → (x : ℕ) → Between (curveRows job weights 0 x) (amount job weights h p x)
-  amount-enclosed l x = of-within (curveRows job weights 0 x) (amount job weights h p x) (rw value-amount (enclosed x 0 l))
+  pub amount-enclosed : 0 < job .law .order → (x : ℕ)
+      → Between (curveRows job weights 0 x .low) (curveRows job weights 0 x .high) (amount job weights h p x)
+  amount-enclosed l x = of-within _ _ (amount job weights h p x) (rw value-amount (enclosed x 0 l))

@@ -8,17 +8,17 @@ use Rattle.algebra.specs.Fraction.{Fraction}
 use Rattle.algebra.proofs.Integer.{of-pos}
 use Rattle.model.specs.declared.Start.{Start}
 use Rattle.model.specs.declared.Job.{Job}
-use Rattle.model.specs.Answer.{Answer, accepted}
+use Rattle.model.specs.Answer.{accepted}
 use Rattle.model.specs.Limits.{unit}
 use Rattle.model.proofs.Tests.{inside}
 use Rattle.exact.specs.JobAmount.{Divisible}
-use Rattle.rows.specs.Layout.{Lent}
-use Rattle.compound.specs.Call.{wrongStart}
 use Rattle.start.specs.Call.{Started, given}
 use Rattle.start.specs.Holds.{Holds, Passes}
 use Rattle.start.proofs.IsStart.{is-start}
 use Rattle.start.proofs.PowerHeld.{holds-power}
 use Rattle.start.proofs.SeriesHeld.{holds-series}
+use Rattle.rows.specs.Layout.{Lent}
+use Rattle.compound.specs.Call.{wrongStart}
 use Rattle.accuracy.specs.Accuracy.{Accepted}
 use Rattle.accuracy.specs.GivenStart.{EnclosedFor, EnclosesPower, EnclosesSeries, StartTaken}
 use Rattle.accuracy.proofs.Accuracy.{encloses}

@@ -3,20 +3,19 @@ use mathlib.Core.Path.{_≡_}
 use mathlib.Core.Bool.{false}
 use mathlib.Core.List.{List}
 use Prim.Native.Nat.{ℕ, _/_, _≤_, _<_}
-use Rattle.algebra.specs.Fraction.{Fraction, whole, _≼_}
+use Rattle.algebra.specs.Fraction.{Fraction, Between}
 use Rattle.model.specs.declared.Start.{Start}
 use Rattle.model.specs.declared.Job.{Job}
 use Rattle.exact.specs.JobAmount.{Divisible, amount}
-use Rattle.rows.specs.Layout.{Lent}
-use Rattle.compound.specs.Call.{wrongStart}
 use Rattle.start.specs.Call.{given, startOfMean, startOfTrials}
 use Rattle.start.specs.Holds.{powerUnits, seriesUnits}
+use Rattle.rows.specs.Layout.{Lent}
+use Rattle.compound.specs.Call.{wrongStart}
 use Rattle.accuracy.specs.Accuracy.{Accepted, shown}
 
 -- with a chance of no claims of p units the exact amount at x lies from low to high
 abbrev pub EnclosedFor : (job : Job) (weights : List ℕ) → Lent → Divisible job weights → ℕ → Fraction → Type 0
-EnclosedFor job weights lent d x p =
-    (whole (shown job weights lent x .low) ≼ amount job weights d p x) × (amount job weights d p x ≼ whole (shown job weights lent x .high))
+EnclosedFor job weights lent d x p = Between (shown job weights lent x .low) (shown job weights lent x .high) (amount job weights d p x)
 
 -- the start is that of N trials: so it is with the exact power
 abbrev pub EnclosesPower : Type 0

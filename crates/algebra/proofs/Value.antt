@@ -10,7 +10,7 @@ use Rattle.algebra.specs.Semiring.{Semiring, nat}
 use Rattle.algebra.specs.Ring.{int}
 use Rattle.algebra.specs.Order.{OrderedRing}
 use Rattle.algebra.specs.Sum.{accumulate, sum, sumℤ}
-use Rattle.algebra.specs.Fraction.{Fraction, over, whole, _⊕_, _⊗_, overSuc, _≈_, _≼_, oneTo, zeroTo, product}
+use Rattle.algebra.specs.Fraction.{Fraction, over, whole, _⊕_, _⊗_, overSuc, _≈_, _≼_, Between, oneTo, zeroTo, product}
 use Rattle.algebra.proofs.Semiring.{ring, ring-units, nat-zero, nat-suc}
 use Rattle.algebra.proofs.Ring.{neg-unique}
 use Rattle.algebra.proofs.Integer.{integers, signed, split-add, *ℤ-mono, *ℤ-cancel-le}
@@ -154,6 +154,17 @@ pub ≼-dec : (x y : Fraction) → Dec (x ≼ y)
     by : Dec (order ._⊑_ (value x) (value y)) → Dec (x ≼ y)
     by (yes h) = yes (le-of-value h)
     by (no f) = no (λ h. f (value-le h))
+
+-- v lies from low to high
+pub record Within (low high : ℤ) (v : ℚ .carrier) : Type 0 where
+  pub below : order ._⊑_ (int (order .ring) low) v
+  pub above : order ._⊑_ v (int (order .ring) high)
+
+pub within-value : (low high : ℤ) (x : Fraction) → Between low high x → Within low high (value x)
+within-value low high x (l, h) = record { below = rw (← value-int) (value-le l); above = rw (← value-int) (value-le h) }
+
+pub of-within : (low high : ℤ) (x : Fraction) → Within low high (value x) → Between low high x
+of-within low high x w = (le-of-value (rw value-int (w .below)), le-of-value (rw value-int (w .above)))
 
 -- amounts in order, sums in order
 pub zeroTo-mono : (n : ℕ) (f g : ℕ → Fraction) → ((i : ℕ) → i ≤ n → f i ≼ g i) → zeroTo n f ≼ zeroTo n g

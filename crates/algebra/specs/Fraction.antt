@@ -50,6 +50,10 @@ infix 4 _≼_
 pub record _≼_ (x y : Fraction) : Type 0 where
   pub across : (x .upper *ℤ pos (y .lower)) ≤ℤ (y .upper *ℤ pos (x .lower))
 
+-- from a whole number to another, ends included
+abbrev pub Between : ℤ → ℤ → Fraction → Type 0
+Between low high x = (whole low ≼ x) × (x ≼ whole high)
+
 -- g 1 + .. + g n
 unfoldable pub oneTo : ℕ → (ℕ → Fraction) → Fraction
 oneTo n g = accumulate (whole (pos 0)) _⊕_ n (λ i. g (suc i))

@@ -6,36 +6,27 @@ use lib.IntN.{ℤ, pos, _*ℤ_}
 use Rattle.algebra.specs.Semiring.{Semiring, nat}
 use Rattle.algebra.specs.Ring.{int}
 use Rattle.algebra.specs.Order.{OrderedRing}
-use Rattle.algebra.specs.Fraction.{Fraction}
 use Rattle.algebra.proofs.Ring.{int-pos, int-mul}
 use Rattle.algebra.proofs.Order.{rewritten, le-of-eq, mul-mono, nat-nonneg}
-use Rattle.algebra.proofs.Value.{order, ℚ, value, le-of-value, value-int}
+use Rattle.algebra.proofs.Value.{order, ℚ, Within}
 use Rattle.model.specs.Limits.{unit}
 use Rattle.outward.specs.declared.Interval.{Interval}
 use Rattle.outward.proofs.Enclosed.{floor-le, le-ceil}
 use Rattle.start.specs.declared.scale.Factor.{Factor}
 use Rattle.start.specs.Step.{certain, times}
-use Rattle.start.specs.Holds.{Holds}
 open OrderedRing order using (_⊑_)
 open Semiring ℚ using (carrier as A, _·_)
 
 infix 4 _⊑_
 infixl 7 _·_
-pub record Held (ends : Interval) (x : A) : Type 0 where
-  pub low : int (order .ring) (ends .low) ⊑ x
-  pub high : x ⊑ int (order .ring) (ends .high)
-
-pub holds : (ends : Interval) (x : Fraction) → Held ends (value x) → Holds ends x
-holds ends x h = (
-  le-of-value (rewritten order (h .low) (sym (value-int (ends .low))) refl),
-  le-of-value (rewritten order (h .high) refl (sym (value-int (ends .high)))),
-)
+abbrev pub Held : Interval → A → Type 0
+Held ends x = Within (ends .low) (ends .high) x
 
 -- U and U hold U
 pub certain-held : Held certain (nat ℚ unit)
 certain-held = record {
-  low = le-of-eq order (int-pos (order .ring) unit);
-  high = le-of-eq order (sym (int-pos (order .ring) unit));
+  below = le-of-eq order (int-pos (order .ring) unit);
+  above = le-of-eq order (sym (int-pos (order .ring) unit));
 }
 
 module _ (factor : Factor) (d-pos : 1 ≤ factor .divisor) (ends : Interval) (x y : A) (h : Held ends x) where
@@ -46,11 +37,11 @@ module _ (factor : Factor) (d-pos : 1 ≤ factor .divisor) (ends : Interval) (x 
   pub times-held : nat ℚ (factor .low) · x ⊑ nat ℚ (factor .divisor) · y → nat ℚ (factor .divisor) · y ⊑ nat ℚ (factor .high) · x
       → Held (times factor ends) y
   unfolding times
-  times-held below above = record {
-    low = floor-le order (ends .low *ℤ pos (factor .low)) (factor .divisor) d-pos (order .le-trans
-        (rewritten order (mul-mono order _ (nat-nonneg order (factor .low)) (h .low)) (end-product (ends .low) (factor .low)) refl) below);
-    high = le-ceil order (ends .high *ℤ pos (factor .high)) (factor .divisor) d-pos (order .le-trans above
-        (rewritten order (mul-mono order _ (nat-nonneg order (factor .high)) (h .high)) refl (end-product (ends .high) (factor .high))));
+  times-held least most = record {
+    below = floor-le order (ends .low *ℤ pos (factor .low)) (factor .divisor) d-pos (order .le-trans
+        (rewritten order (mul-mono order _ (nat-nonneg order (factor .low)) (h .below)) (end-product (ends .low) (factor .low)) refl) least);
+    above = le-ceil order (ends .high *ℤ pos (factor .high)) (factor .divisor) d-pos (order .le-trans most
+        (rewritten order (mul-mono order _ (nat-nonneg order (factor .high)) (h .above)) refl (end-product (ends .high) (factor .high))));
   }
 
   -- a factor that is one number

@@ -9,12 +9,12 @@ use Rattle.algebra.specs.Fraction.{Fraction, over, whole, power}
 use Rattle.algebra.proofs.Semiring.{ring}
 use Rattle.algebra.proofs.Integer.{signed, split-add, split-neg}
 use Rattle.algebra.proofs.Ring.{int-pos}
-use Rattle.algebra.proofs.Value.{order, ℚ, value, value-times, value-nat, value-over, product-zero, product-suc}
+use Rattle.algebra.proofs.Value.{order, ℚ, value, value-times, value-nat, value-over, product-zero, product-suc, of-within}
 use Rattle.model.specs.Limits.{unit}
 use Rattle.start.specs.Step.{certain, exactly, repeated}
 use Rattle.start.specs.Call.{ofTrials}
 use Rattle.start.specs.Holds.{HoldsPower, powerUnits}
-use Rattle.start.proofs.Held.{Held, holds, certain-held, times-held-exactly}
+use Rattle.start.proofs.Held.{Held, certain-held, times-held-exactly}
 use Rattle.start.proofs.Accepted.{trials-accepted}
 open Semiring ℚ using (carrier as A, _·_)
 
@@ -44,5 +44,5 @@ pub holds-power : HoldsPower
 unfolding ofTrials x
 holds-power r s N e h =
     let k = trials-accepted r s N e in
-    rw (k .is) (holds (ofTrials r s N) (powerUnits r s N h)
+    rw (k .is) (of-within _ _ (powerUnits r s N h)
     (rw (value-times (whole (pos unit)) (power (over (pos s -ℤ pos r) s h) N), value-nat unit) (power-held r s (k .below) h N)))

@@ -21,14 +21,14 @@ use Rattle.algebra.proofs.Order.{rewritten, le-of-eq, add-mono, neg-mono, mul-m
 use Rattle.algebra.proofs.Sum.{sum-related}
 use Rattle.algebra.proofs.Solver.{solve}
 use Rattle.algebra.proofs.Alternating.{alternating-zero, alternating-suc, alternating-cong, alternating-add, alternating-bounds}
-use Rattle.algebra.proofs.Value.{order, ℚ, value, value-le, value-times, value-nat, product-zero, product-suc}
+use Rattle.algebra.proofs.Value.{order, ℚ, value, value-le, value-times, value-nat, product-zero, product-suc, of-within}
 use Rattle.model.specs.Limits.{unit as U}
 use Rattle.outward.specs.declared.Interval.{Interval}
 use Rattle.start.specs.Step.{exactly, times, repeated}
 use Rattle.start.specs.Call.{term, lowPart, highPart, series, expMinusOne, ofMean}
 use Rattle.start.specs.Exponential.{factorial, exponentialTerm, exponential}
 use Rattle.start.specs.Holds.{restSum, wholeProduct, seriesUnits, HoldsSeries}
-use Rattle.start.proofs.Held.{Held, holds, certain-held, times-held, times-held-exactly}
+use Rattle.start.proofs.Held.{Held, certain-held, times-held, times-held-exactly}
 use Rattle.start.proofs.Exponential.{scaledTerm, scaled-zero, scaled-suc, exponential-value}
 use Rattle.start.proofs.Accepted.{mean-accepted}
 open OrderedRing order using (_⊑_)
@@ -128,8 +128,8 @@ module _ (q s : ℕ) (h : 1 ≤ s) (qs : q ≤ s) where
       plus x y u v p r = rewritten order (add-mono order p r) (sym (int-add (order .ring) x y)) refl
 
       part : (j : ℕ) (e : Bool) → integer (cond e (term q s j .low) (negℤ (term q s j .high))) ⊑ cond e (b j) (neg (b j))
-      part j true = term-held j .low
-      part j false = rewritten order (neg-mono order (term-held j .high)) (sym (int-neg (order .ring) (term q s j .high))) refl
+      part j true = term-held j .below
+      part j false = rewritten order (neg-mono order (term-held j .above)) (sym (int-neg (order .ring) (term q s j .high))) refl
 
   high-held : (n : ℕ) → alternate n b ⊑ integer (sumℤ n (highPart q s))
   unfolding alternating
@@ -143,14 +143,14 @@ module _ (q s : ℕ) (h : 1 ≤ s) (qs : q ≤ s) where
       plus u v x y p r = rewritten order (add-mono order p r) refl (sym (int-add (order .ring) x y))
 
       part : (j : ℕ) (e : Bool) → cond e (b j) (neg (b j)) ⊑ integer (cond e (term q s j .high) (negℤ (term q s j .low)))
-      part j true = term-held j .high
-      part j false = rewritten order (neg-mono order (term-held j .low)) refl (sym (int-neg (order .ring) (term q s j .low)))
+      part j true = term-held j .above
+      part j false = rewritten order (neg-mono order (term-held j .below)) refl (sym (int-neg (order .ring) (term q s j .low)))
 
   series-held : (n : ℕ) → 13 ≤ n → Held (series q s) (alternate (suc n) b)
   unfolding series
   series-held n l = record {
-    low = order .le-trans (low-held 14) (sandwich n l .0);
-    high = order .le-trans (sandwich n l .1) (high-held 13);
+    below = order .le-trans (low-held 14) (sandwich n l .0);
+    above = order .le-trans (sandwich n l .1) (high-held 13);
   }
 
 -- ---- the constants, by comparing fractions
@@ -223,7 +223,7 @@ unfolding ofMean
 holds-series r s e h n ns l each =
     let k = mean-accepted r s e in
     let below = NL.le-of-lt (k .rest .below) in
-    rw (k .is) (holds (ofMean r s) (seriesUnits r s h n ns) (rw units
+    rw (k .is) (of-within _ _ (seriesUnits r s h n ns) (rw units
     (product-held (series (r % s) s) (alternate (suc n) (scaledTerm (r % s) s h)) (sum-nonneg (r % s) s h below n)
     (series-held (r % s) s h below n l) ns (r / s) each)))
   where

@@ -1,7 +1,6 @@
 -- Every number of the two calls fits 64 bits with a sign: products of numbers up to U, and sums of up to 13 of them.
 use mathlib.Core.Path.{_≡_}
 use Prim.Native.Nat.{_≤_}
-use native.Mathlib.Nat as NL
 use native.Mathlib.Omega.{arith}
 use lib.IntN.{ℤ, pos, negsuc, natAbs, _+ℤ_, _-ℤ_, _*ℤ_}
 use lib.Dec.{T}
@@ -11,8 +10,8 @@ use mir.Val.{Fits, SFits, toZ}
 use mir.Facts.{toZ-pos, fits-of-lt}
 use Rattle.algebra.proofs.Integer.{≤ℤ-trans, of-pos}
 use Rattle.algebra.proofs.Size.{size-add, size-sub, size-mul-le, size-fits}
-use Rattle.outward.specs.declared.Interval.{Interval}
 use Rattle.model.specs.Limits.{unit}
+use Rattle.outward.specs.declared.Interval.{Interval}
 use Rattle.start.specs.declared.scale.Factor.{Factor}
 use Rattle.start.specs.Step.{InUnit, Proper}
 use Rattle.start.specs.Room.{SumRoom}

@@ -10,14 +10,14 @@ use lib.IntN.{ℤ, pos, negℤ, _+ℤ_, _*ℤ_, *ℤ-zero}
 use lib.Signed.{_≤ℤ_, ≤ℤ-refl}
 use Rattle.algebra.specs.Semiring.{nat}
 use Rattle.algebra.specs.Alternating.{isEven, alternating}
-use Rattle.algebra.specs.Sum.{sum, sumℤ}
+use Rattle.algebra.specs.Sum.{sumℤ}
 use Rattle.algebra.proofs.Sum.{sum-cong, sum-suc}
 use Rattle.algebra.proofs.Order.{sum-mono, neg-mono}
 use Rattle.algebra.proofs.Alternating.{alternating-suc, alternating-bounds}
 use Rattle.algebra.proofs.Integer.{integers, integerOrder, signed, split-add, split-neg, ≤ℤ-trans, pos-mono, of-pos}
+use Rattle.model.specs.Limits.{unit}
 use Rattle.outward.specs.declared.Interval.{Interval}
 use Rattle.outward.proofs.Division.{ceilℕ, ceil-pos}
-use Rattle.model.specs.Limits.{unit}
 use Rattle.start.specs.Step.{exactly, times, InUnit, Proper}
 use Rattle.start.specs.Call.{term, lowPart, highPart, series}
 use Rattle.start.proofs.Step.{quotients, times-pos, lower, upper}

@@ -8,13 +8,13 @@ use native.Mathlib.Omega.{arith}
 use lib.IntN.{ℤ, pos, negℤ, natAbs, _+ℤ_, _-ℤ_}
 use lib.Signed.{_≤ℤ_, ≤ℤ-refl}
 use Rattle.algebra.specs.Sum.{accumulate, sumℤ}
+use Rattle.algebra.specs.Alternating.{isEven}
 use Rattle.algebra.proofs.Natural.{sumℕ-most}
 use Rattle.algebra.proofs.Size.{size-neg, size-sum}
 use Rattle.algebra.proofs.Integer.{signed, split-add, pos-mono}
-use Rattle.outward.specs.declared.Interval.{Interval}
 use Rattle.model.specs.Limits.{unit}
+use Rattle.outward.specs.declared.Interval.{Interval}
 use Rattle.start.specs.Step.{certain, exactly, InUnit, Proper}
-use Rattle.algebra.specs.Alternating.{isEven}
 use Rattle.start.specs.Call.{term, lowPart, highPart}
 use Rattle.start.specs.Room.{plusPart, sumOfTerms, SumRoom}
 use Rattle.start.proofs.Step.{Stepped, stepped}

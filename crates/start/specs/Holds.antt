@@ -3,13 +3,13 @@ use mathlib.Core.Path.{_≡_}
 use Prim.Native.Nat.{ℕ, _/_, _%_, _≤_, _<_}
 use lib.IntN.{pos, negℤ, _-ℤ_}
 use lib.Signed.{_≤ℤ_}
-use Rattle.algebra.specs.Fraction.{Fraction, over, whole, _⊗_, _≼_, product, power}
+use Rattle.algebra.specs.Fraction.{Fraction, over, whole, _⊗_, Between, product, power}
 use Rattle.model.specs.Answer.{accepted}
 use Rattle.model.specs.Limits.{unit}
 use Rattle.outward.specs.declared.Interval.{Interval}
 use Rattle.start.specs.Step.{InUnit}
 use Rattle.start.specs.Exponential.{exponential}
-use Rattle.start.specs.Call.{Started, startOfMean, startOfTrials}
+use Rattle.start.specs.Call.{startOfMean, startOfTrials}
 
 -- ---- what the start is to hold
 -- U times ((s-r)/s) to the N
@@ -29,9 +29,9 @@ abbrev pub seriesUnits : (r s : ℕ) → 1 ≤ s → ℕ → (ℕ → ℕ) → F
 seriesUnits r s h n ns = whole (pos unit) ⊗ (restSum r s h n ⊗ wholeProduct (r / s) ns)
 
 -- ---- what is said of a start
--- an amount in units, whole or fraction, lies from low to high
+-- a number of units, whole or fraction, lies from low to high
 abbrev pub Holds : Interval → Fraction → Type 0
-Holds ends x = (whole (ends .low) ≼ x) × (x ≼ whole (ends .high))
+Holds ends x = Between (ends .low) (ends .high) x
 
 -- "0 ≤ s ≤ t ≤ U and t ≥ 1": what the curve's check 4 asks of a start
 abbrev pub Passes : Interval → Type 0

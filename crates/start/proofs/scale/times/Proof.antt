@@ -1,14 +1,11 @@
 -- The quotients are what the call ensures, of the products, since these fit.
 use borrow.Author.Needs.{needs}
 use mir.Facts.{toZ-ofZ}
-use Rattle.start.specs.Step.{times}
 use Rattle.outward.proofs.Division.{same-ends}
+use Rattle.start.specs.Step.{times}
 use Rattle.start.proofs.Sizes.{Products, products}
 use Rattle.start.proofs.scale.times.Statement.{statement}
 use Rattle.start.proofs.scale.times.Tie as tie
-use Rattle.start.proofs.scale.times.Reads as reads
-use Rattle.start.proofs.scale.times.Lts as lts
-use Rattle.outward.proofs.divide.Reads as divide-reads
 
 sizes : (c : tie.Start) → Products (c .args .factor) (c .args .ends)
 sizes c = products (c .args .factor) (c .args .ends) (c .pre .0) (c .pre .1)
