@@ -22,8 +22,8 @@ extern "C" {
 #endif
 
 /* The version of this header, as a number, major * 10,000 + minor * 100 + patch, and as text. */
-#define CLAIMTOTALS_VERSION 100
-#define CLAIMTOTALS_VERSION_TEXT "0.1.0"
+#define CLAIMTOTALS_VERSION 200
+#define CLAIMTOTALS_VERSION_TEXT "0.2.0"
 
 #define CLAIMTOTALS_UNIT INT64_C(1000000000)
 

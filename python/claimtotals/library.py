@@ -81,6 +81,6 @@ def calls() -> ctypes.CDLL:
 
 
 def version() -> str:
-    """That of the library: 0.1.0."""
+    """That of the library: 0.2.0."""
     number = calls().claimtotals_version()
     return f"{number // 10_000}.{number // 100 % 100}.{number % 100}"

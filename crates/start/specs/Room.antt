@@ -1,4 +1,4 @@
--- What the code's sum of the terms is, one term after the other, and that no sum overflows.
+-- For inner functions alone: the code's sum of the terms, one term after the other, and that no sum overflows.
 use mathlib.Core.Bool.{cond}
 use Prim.Native.Nat.{ℕ, _*_, _≤_}
 use lib.IntN.{natAbs, _+ℤ_, _-ℤ_}
