@@ -1,6 +1,6 @@
 """The calls that the program crates/calls makes, and what the calculator says to each. Checks that the calculator gives the answer that the
-case asks for, that the exact amounts of an accepted curve lie within its lows and highs, and that the program's files stdin and stdout
-hold just these calls and the calculator's answers; with --write it writes the files first."""
+case asks for, that the exact amounts of an accepted curve lie within its lows and highs and the exact chance of no claims within its start,
+and that the program's files stdin and stdout hold just these calls and the calculator's answers; with --write it writes the files first."""
 import pathlib
 import sys
 from typing import NamedTuple
@@ -8,11 +8,14 @@ from typing import NamedTuple
 import cases_curve
 import cases_level
 import cases_reader
+import cases_start
 from enclosed import outside
 from level import level_query
 from limits import LAST_TOTAL
 from outward import Lent, curve
 from sheet import read_sheet
+from start import start_of_mean, start_of_trials
+from started import outside_mean, outside_trials
 
 FOLDER = pathlib.Path(__file__).parent.parent / "crates/calls"
 
@@ -92,6 +95,27 @@ def level_call(case):
     )
 
 
+def start_faults(case, said, outside_start):
+    yield from differences(case.number, said.number)
+    if case.low is not None:
+        yield from differences((case.low, case.high), (said.low, said.high))
+    if said.number == 0:
+        yield from outside_start(said, *case.given)
+
+
+def start_call(case, kind, start_of, outside_start):
+    said = start_of(*case.given)
+    return Call(case.name, words(kind, *case.given), line(said), list(start_faults(case, said, outside_start)))
+
+
+def mean_call(case):
+    return start_call(case, 4, start_of_mean, outside_mean)
+
+
+def trials_call(case):
+    return start_call(case, 5, start_of_trials, outside_trials)
+
+
 def stored(name):
     path = FOLDER / name
     return path.read_bytes() if path.exists() else b""
@@ -100,7 +124,8 @@ def stored(name):
 def main():
     if sys.argv[1:] not in ([], ["--write"]):
         sys.exit(f"usage: {sys.argv[0]} [--write]")
-    calls = [*map(reader_call, cases_reader.CASES), *map(curve_call, cases_curve.CASES), *map(level_call, cases_level.CASES)]
+    calls = [*map(reader_call, cases_reader.CASES), *map(curve_call, cases_curve.CASES), *map(level_call, cases_level.CASES),
+             *map(mean_call, cases_start.MEANS), *map(trials_call, cases_start.TRIALS)]
     records = b"".join(call.record for call in calls)
     if sys.argv[1:]:
         (FOLDER / "stdin").write_bytes(records)
@@ -114,7 +139,8 @@ def main():
         faults.append("stdin does not hold the cases' calls")
     if len(lines) != len(calls):
         faults.append(f"stdout has {len(lines)} lines for {len(calls)} calls")
-    kinds = f"{len(cases_reader.CASES)} sheets, {len(cases_curve.CASES)} curves, {len(cases_level.CASES)} level queries"
+    kinds = (f"{len(cases_reader.CASES)} sheets, {len(cases_curve.CASES)} curves, {len(cases_level.CASES)} level queries, "
+             f"{len(cases_start.MEANS) + len(cases_start.TRIALS)} starts")
     print(*faults, f"calls: {kinds} set beside the calculator, {len(faults)} faults", sep="\n")
     if faults:
         sys.exit(1)

@@ -20,3 +20,7 @@ MOST_END = 2 * UNIT
 MOST_BOUND = UNIT
 # "empty or over 16,384 bytes"
 MOST_BYTES = 16_384
+# "an s outside 1 to 1,000 or a mean above 20"; "a number of trials outside 1 to 1,000"
+MOST_LOWER = 1000
+MOST_MEAN = 20
+MOST_TRIALS = 1000

@@ -96,6 +96,24 @@ static void call_quantile(void) {
     give_rows(rows, sizeof rows / sizeof *rows);
 }
 
+static void call_start_mean(void) {
+    uint64_t upper = number(), lower = number();
+    struct row low = take_row(8), high = take_row(8);
+    uint64_t answer = claimtotals_start_mean(upper, lower, low.block, high.block);
+    give(&answer, sizeof answer);
+    struct row rows[] = {low, high};
+    give_rows(rows, sizeof rows / sizeof *rows);
+}
+
+static void call_start_trials(void) {
+    uint64_t upper = number(), lower = number(), trials = number();
+    struct row low = take_row(8), high = take_row(8);
+    uint64_t answer = claimtotals_start_trials(upper, lower, trials, low.block, high.block);
+    give(&answer, sizeof answer);
+    struct row rows[] = {low, high};
+    give_rows(rows, sizeof rows / sizeof *rows);
+}
+
 int main(void) {
     for (int which; (which = getchar()) != EOF;) {
         switch (which) {
@@ -103,6 +121,8 @@ int main(void) {
         case 'r': call_read_sheet(); break;
         case 'f': call_faulty_word(); break;
         case 'q': call_quantile(); break;
+        case 'm': call_start_mean(); break;
+        case 't': call_start_trials(); break;
         default: fprintf(stderr, "no call has the letter %d\n", which); return 2;
         }
         /* at once, so that it can be told which call was the last when Valgrind ends the run */

@@ -10,7 +10,8 @@ from random_calls import Row
 # So many bytes before and past each row must be what they were.
 GUARD = 64
 
-LETTERS = {"claimtotals_curve": b"c", "claimtotals_read_sheet": b"r", "claimtotals_faulty_word": b"f", "claimtotals_quantile": b"q"}
+LETTERS = {"claimtotals_curve": b"c", "claimtotals_read_sheet": b"r", "claimtotals_faulty_word": b"f", "claimtotals_quantile": b"q",
+           "claimtotals_start_mean": b"m", "claimtotals_start_trials": b"t"}
 
 
 class Fault(Exception):

@@ -8,11 +8,12 @@ from typing import NamedTuple
 
 import random_sheets
 from level import level_query
-from limits import (LAST_TOTAL, MOST_DIVISOR, MOST_END, MOST_ORDER, MOST_SUM, MOST_TERM, MOST_TOTALS, MOST_WEIGHTS, UNIT,
-                    WORK_COLUMNS)
+from limits import (LAST_TOTAL, MOST_DIVISOR, MOST_END, MOST_LOWER, MOST_MEAN, MOST_ORDER, MOST_SUM, MOST_TERM, MOST_TOTALS, MOST_TRIALS,
+                    MOST_WEIGHTS, UNIT, WORK_COLUMNS)
 from outward import Job, Lent, curve
 from random_sheets import near
 from sheet import read_sheet
+from start import start_of_mean, start_of_trials
 
 LEAST, MOST = -2 ** 63, 2 ** 63 - 1
 HUGE = (2 ** 31, 2 ** 32, 2 ** 32 + 1, 2 ** 63 - 1, 2 ** 63, 2 ** 64 - 1)
@@ -273,8 +274,56 @@ def level_call(r):
     ], said.number, said.number)
 
 
+# ---- means, chances and trials for the start
+
+def random_lower(r):
+    """Mostly a good one; or one whose twentyfold 64 bits would take for a small number."""
+    good = r.randint(1, MOST_LOWER)
+    return r.choice((good, good, good, good, 1, 2, 10, 100, *near(MOST_LOWER), 0, r.choice((*HUGE, 2 ** 64 // MOST_MEAN + 1))))
+
+
+def in_64_bits(number):
+    """What 64 bits make of a number that they do not hold."""
+    return number % 2 ** 64
+
+
+def random_mean(r, lower):
+    """The upper number: good ones, and those about a whole and about the limit."""
+    small, good = r.randint(0, min(lower, 20)), r.randint(0, MOST_MEAN * lower)
+    return in_64_bits(r.choice((0, small, small, good, good, good, *near(lower), *near(MOST_MEAN * lower), r.choice(HUGE))))
+
+
+def random_chance(r, lower):
+    """The same for a chance; also one that would be too great for a mean."""
+    small, good = r.randint(0, min(lower, 20)), r.randint(0, lower)
+    return in_64_bits(r.choice((0, small, small, small, good, good, good, good, *near(lower), MOST_MEAN * lower + 1, r.choice(HUGE))))
+
+
+def random_trials(r):
+    few, many = r.randint(1, 20), r.randint(1, MOST_TRIALS)
+    return r.choice((1, few, few, few, many, many, many, *near(MOST_TRIALS), 0, r.choice(HUGE)))
+
+
+def start_call(r, name, start_of, given):
+    said = start_of(*given.values())
+    ends = [(end, number_row(r, UNSIGNED, getattr(said, end))) for end in ("low", "high")]
+    return Call(name, [*given.items(), *ends], said.number, said.number)
+
+
+def mean_call(r):
+    lower = random_lower(r)
+    return start_call(r, "claimtotals_start_mean", start_of_mean, {"upper": random_mean(r, lower), "lower": lower})
+
+
+def trials_call(r):
+    lower = random_lower(r)
+    given = {"upper": random_chance(r, lower), "lower": lower, "trials": random_trials(r)}
+    return start_call(r, "claimtotals_start_trials", start_of_trials, given)
+
+
 def call(r):
-    return r.choices((curve_call, reader_call, word_call, level_call), (40, 20, 15, 25))[0](r)
+    kinds = {curve_call: 40, reader_call: 20, word_call: 15, level_call: 25, mean_call: 4, trials_call: 6}
+    return r.choices(list(kinds), list(kinds.values()))[0](r)
 
 
 def numbered(seed, index):
@@ -288,4 +337,6 @@ CAN_ARISE = {
     "claimtotals_read_sheet": [0, 21, 22, 23, 24, 25, 26, 27],
     "claimtotals_faulty_word": ["none", "word", "empty word"],
     "claimtotals_quantile": [0, 31, 32, 33, 34],
+    "claimtotals_start_mean": [0, 41],
+    "claimtotals_start_trials": [0, 41, 42, 43],
 }
