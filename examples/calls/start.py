@@ -16,18 +16,20 @@ import claimtotals
 # By the first word and the number of those behind it.
 CALLS = {("mean", 2): claimtotals.start_of_mean, ("trials", 3): claimtotals.start_of_trials}
 
-# As on a sheet, but for up to 64 bits. int alone would take spaces, a sign, and digits of other scripts.
-NUMBER = "0|[1-9][0-9]{0,19}"
+# As on a sheet. int alone would take spaces, a sign, and digits of other scripts.
+NUMBER = "0|[1-9][0-9]*"
 
 
 def show(name="", *words):
     call = CALLS.get((name, len(words)))
     if call is None or not all(re.fullmatch(NUMBER, word) for word in words):
         raise ValueError("wrong use")
-    # A number of more than 64 bits is a ValueError too, of the package.
+    # A number of more than 64 bits is a ValueError too.
     low, high = call(*map(int, words))
-    # Output is written late: flush, so that it is known here whether it could be.
-    print(f"START {low} {high}", flush=True)
+    # Output is written late: when it is closed, it is known whether it could be. Of sys.stdout Python would try to write the rest once more
+    # at the end, and give another status.
+    with open(1, "w") as output:
+        print(f"START {low} {high}", file=output)
 
 
 def main():
