@@ -31,8 +31,8 @@ from claimtotals.refusals import Refused
 from claimtotals.sheets import Sheet, read_sheet
 from claimtotals.starts import Start, start_of_mean, start_of_trials
 
-__all__ = ["MOST_BYTES", "UNIT", "Curve", "Job", "Quantile", "Refused", "Row", "Sheet", "Start", "curve", "digits", "quantile", "read_sheet",
-           "start_of_mean", "start_of_trials"]
+__all__ = ["MOST_BYTES", "UNIT", "Curve", "Job", "Quantile", "Refused", "Row", "Sheet", "Start", "curve", "digits", "quantile",
+           "read_sheet", "start_of_mean", "start_of_trials"]
 
 
 def __getattr__(name: str) -> str:

@@ -9,7 +9,7 @@ from fractions import Fraction
 
 from claimtotals import UNIT, Job, Refused, Sheet, Start, curve, read_sheet, start_of_mean, start_of_trials
 
-# Fractions whose twentyfold, cut to 64 bits, is small; and other great numbers.
+# The twentyfold of the first is a small number in 64 bits.
 HUGE = 2 ** 64 // 20 + 1, 2 ** 32, 2 ** 32 + 1, 2 ** 63, 2 ** 64 - 1
 
 
