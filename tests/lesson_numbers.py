@@ -13,6 +13,7 @@ from level import level_query
 from limits import UNIT
 from nearest import nearest, nine_digits
 from outward import first_entries, next_entries
+from start import LAST_TERM
 
 # the LAST line that question 4.2 asks for
 LAST_4_2 = 500
@@ -83,17 +84,18 @@ def poisson_start():
     """Of the sums those to term 40 are looked at; e^-1 is known to fifty digits here."""
     yield "as one likes: {} - {} + {} - {} + {} and so on.".format(*(abs(e_term(place)) for place in range(5)))
     low, high = Law(1, 1).start()
-    first, second = e_sum(12), e_sum(13)
+    first, second = e_sum(LAST_TERM - 1), e_sum(LAST_TERM)
     enclosed = UNIT * first <= high and low <= UNIT * second
-    yield where(enclosed, f"Take those to the terms 12 and 13, which are {first} and {second}. In units the one is at most {high} and the "
-                          f"other at least {low}, so these two enclose e^-1.")
-    between = all(second <= number <= first for number in [*map(e_sum, range(12, 41)), E_1])
+    yield where(enclosed, f"Take those to the terms {LAST_TERM - 1} and {LAST_TERM}, which are {first} and {second}. In units the one is "
+                          f"at most {high} and the other at least {low}, so these two enclose e^-1.")
+    between = all(second <= number <= first for number in [*map(e_sum, range(LAST_TERM - 1, 41)), E_1])
     smaller = all(abs(e_term(place + 1)) < abs(e_term(place)) for place in range(1, 40))
     yield where(between and smaller, "by steps that get ever smaller. So no later sum gets out from between two that follow each other,")
     yield f"Begin with {UNIT:,}, for chance 1, and multiply twice, outward:"
     mean = Fraction(5, 2)
     yield f"A mean such as {mean} has a rest, {mean % 1}, beside its wholes."
-    yield f"each term is the one before it times {mean % 1}, divided by its own number"
+    yield f"each term is the one before it times {mean % 1}, divided by its own number, with the other sign, and rounded outward."
+    yield f"one for the rest times one for each whole, all of them to term {LAST_TERM} or further, lies from s to t in units."
     start, before = Law(4, 1).start(), Law(3, 1).start()
     once = math.floor(UNIT * E_4), math.ceil(UNIT * E_4)
     yield where(start != once and before[1] > UNIT * E_1 ** 3,
