@@ -7,6 +7,7 @@ import pathlib
 import re
 import sys
 from fractions import Fraction
+from typing import NamedTuple, Optional
 
 ROOT = pathlib.Path(__file__).resolve().parent.parent
 FOLDER = "examples/class/"
@@ -15,6 +16,7 @@ sys.path.append(str(ROOT / "calculator"))
 import program
 from limits import MOST_WEIGHTS, UNIT
 from sheet import read_job
+from start import WHOLE, start_of_mean, start_of_trials
 
 OPERATORS = {ast.Add: operator.add, ast.Sub: operator.sub, ast.Mult: operator.mul, ast.Div: operator.truediv, ast.Pow: operator.pow}
 
@@ -39,6 +41,53 @@ def rows(name, last=None):
     return [tuple(map(int, line.split())) for line in lines(name, last)[1:]]
 
 
+class Law(NamedTuple):
+    """A mean, or the chance of one of so many trials."""
+    upper: int
+    lower: int
+    trials: Optional[int] = None
+
+    def start(self):
+        """Low and high, by the calculator."""
+        said = start_of_mean(self.upper, self.lower) if self.trials is None else start_of_trials(*self)
+        if said.number:
+            raise ValueError(f"the start of {self} is refused by {said.number}")
+        return said.low, said.high
+
+    def line(self):
+        """That of a sheet."""
+        return "START {} {}".format(*self.start())
+
+    def words(self):
+        """How the command is asked for it."""
+        fraction = f"{self.upper}/{self.lower}" if self.lower > 1 else f"{self.upper}"
+        return f"start --mean {fraction}" if self.trials is None else f"start --chance {fraction} --trials {self.trials}"
+
+    def way(self):
+        """The starts from chance 1 on, each the one before times the same factors, for low and for high, over the same divisor. A mean is
+        whole here."""
+        if self.trials is None:
+            return [Law(mean, 1).start() for mean in range(self.upper // self.lower + 1)], Law(1, 1).start(), UNIT
+        starts = [tuple(WHOLE), *(self._replace(trials=count + 1).start() for count in range(self.trials))]
+        return starts, (self.lower - self.upper,) * 2, self.lower
+
+
+# As the lesson names it.
+LAW = r"mean \d+(?:/\d+)?|\d+ trials of chance \d+/\d+"
+
+
+def parts(fraction):
+    upper, _, lower = fraction.partition("/")
+    return int(upper), int(lower or 1)
+
+
+def law(named):
+    if named.startswith("mean "):
+        return Law(*parts(named[len("mean "):]))
+    trials, chance = named.split(" trials of chance ")
+    return Law(*parts(chance), int(trials))
+
+
 def value(node):
     if isinstance(node, ast.BinOp):
         return OPERATORS[type(node.op)](value(node.left), value(node.right))
@@ -52,14 +101,15 @@ def evaluate(words):
     return value(ast.parse(words.strip().replace("×", "*").replace("^", "**"), mode="eval").body)
 
 
-def decimal(parts, digits):
-    """So many parts of 10^-digits, which are less than 1 together."""
-    return f"0.{parts:0{digits}}"
+def decimal(count, digits):
+    """So many times 10^-digits."""
+    whole, rest = divmod(count, 10 ** digits)
+    return f"{whole}.{rest:0{digits}}"
 
 
-def cut(chance, digits):
-    """A chance whose digits go on, as it is written with dots."""
-    return f"{decimal(math.floor(chance * 10 ** digits), digits)}..."
+def cut(number, digits):
+    """A number whose digits go on, as it is written with dots."""
+    return f"{decimal(math.floor(number * 10 ** digits), digits)}..."
 
 
 def both_round_to(ends, digits):

@@ -6,19 +6,20 @@ from decimal import Context, Decimal
 from fractions import Fraction
 from itertools import accumulate, combinations
 
-from lesson import both_round_to, cut, evaluate, job, lines, rows
+from lesson import Law, both_round_to, cut, evaluate, job, lines, rows
 
 import exact
 from level import level_query
 from limits import UNIT
 from nearest import nearest, nine_digits
 from outward import first_entries, next_entries
+from start import LAST_TERM
 
 # the LAST line that question 4.2 asks for
 LAST_4_2 = 500
 
 HALF, THIRD, QUARTER, FIFTH = (Fraction(1, n) for n in (2, 3, 4, 5))
-E_1, E_QUARTER = (Fraction(Context(prec=50).exp(Decimal(power))) for power in ("-1", "-0.25"))
+E_1, E_QUARTER, E_4 = (Fraction(Context(prec=50).exp(Decimal(power))) for power in ("-1", "-0.25", "-4"))
 
 # The exact amounts of the lesson's laws, in units.
 PUMPS = exact.amounts(exact.binomial(3, Fraction(7, 10)), [2, 1], UNIT * Fraction(3, 10) ** 3, 48)
@@ -31,6 +32,15 @@ TURNED = exact.amounts(exact.binomial(14, 2 * FIFTH), [1, 1], UNIT * (3 * FIFTH)
 def where(holds, sentence):
     """A sentence that says what was found to hold; else one that does not stand in the text."""
     return sentence if holds else f"(does not hold) {sentence}"
+
+
+def e_term(place):
+    """Of the sums that come near to e^-1."""
+    return Fraction((-1) ** place, math.factorial(place))
+
+
+def e_sum(last):
+    return sum(map(e_term, range(last + 1)))
 
 
 def column(name, place):
@@ -68,6 +78,29 @@ def poisson_table():
     _, _, sure, possible = level_query(low, high, UNIT * 99 // 100)
     yield (f"Up to total {sure}. To total {possible - 1} even the highs add up to no more than {sums[1][possible - 1]}, to total {sure} "
            f"the lows add up to {sums[0][sure]}.")
+
+
+def poisson_start():
+    """Of the sums those to term 40 are looked at; e^-1 is known to fifty digits here."""
+    yield "as one likes: {} - {} + {} - {} + {} and so on.".format(*(abs(e_term(place)) for place in range(5)))
+    low, high = Law(1, 1).start()
+    first, second = e_sum(LAST_TERM - 1), e_sum(LAST_TERM)
+    enclosed = UNIT * first <= high and low <= UNIT * second
+    yield where(enclosed, f"Take those to the terms {LAST_TERM - 1} and {LAST_TERM}, which are {first} and {second}. In units the one is "
+                          f"at most {high} and the other at least {low}, so these two enclose e^-1.")
+    between = all(second <= number <= first for number in [*map(e_sum, range(LAST_TERM - 1, 41)), E_1])
+    smaller = all(abs(e_term(place + 1)) < abs(e_term(place)) for place in range(1, 40))
+    yield where(between and smaller, "by steps that get ever smaller. So no later sum gets out from between two that follow each other,")
+    yield f"Begin with {UNIT:,}, for chance 1, and multiply twice, outward:"
+    mean = Fraction(5, 2)
+    yield f"A mean such as {mean} has a rest, {mean % 1}, beside its wholes."
+    yield f"each term is the one before it times {mean % 1}, divided by its own number, with the other sign, and rounded outward."
+    yield f"one for the rest times one for each whole, all of them to term {LAST_TERM} or further, lies from s to t in units."
+    start, before = Law(4, 1).start(), Law(3, 1).start()
+    once = math.floor(UNIT * E_4), math.ceil(UNIT * E_4)
+    yield where(start != once and before[1] > UNIT * E_1 ** 3,
+                f"e^-4 is {cut(UNIT * E_4, 2)} units. But high 3 is above e^-3, as it was rounded up, and with it high 4 comes to "
+                f"{cut(Fraction(before[1] * high, UNIT), 2)} before it is rounded up itself.")
 
 
 def binomial_law():
@@ -138,6 +171,19 @@ def group_law():
     yield where(as_said, f"pairs come by a Poisson law of mean {QUARTER}, beside the single claims of mean 1. Count as in part 3: n times "
                          f"the chance of n claims is 1 times that of n-1 plus 2 × {QUARTER} times that of n-2,")
     yield f"e^-1 times e^-(1/4), which is {cut(E_1 * E_QUARTER, 11)}"
+    yield f"begins with {UNIT:,} and multiplies by {1 - FIFTH} for each van, or by {1 - THIRD} for each tractor, outward:"
+
+
+def pairs_start():
+    """Both starts hold the exact chance; that of the sheet is its one rounding."""
+    exact_start, read, wide = UNIT * E_1 * E_QUARTER, job("pairs.txt"), Law(5, 4)
+    narrow = read.low_start, read.high_start
+    by_hand = narrow == (math.floor(exact_start), math.ceil(exact_start))
+    yield where(by_hand, f"The sheet's START line is {cut(exact_start / UNIT, 11)} rounded once; it is as good as these digits.")
+    mean = Fraction(wide.upper, wide.lower)
+    wider = wide.start()[0] < narrow[0] and narrow[1] < wide.start()[1]
+    yield where(mean == 1 + QUARTER, f"e^-1 times e^-(1/4) is also the chance of no claims by a Poisson law of mean {mean}:")
+    yield where(wider, f"This is wider, as the terms for the rest, {mean % 1}, are rounded outward one by one.")
 
 
 def group_table():
@@ -194,8 +240,8 @@ def turned_table():
     yield f"at total 0, from {none} to {one} units. Write down {both_round_to((none, one), 8)}."
 
 
-PARTS = [poisson_table, binomial_law, binomial_table, binomial_nearest, group_law, group_table, growing_table, growing_nearest,
-         turned_table]
+PARTS = [poisson_table, poisson_start, binomial_law, binomial_table, binomial_nearest, group_law, pairs_start, group_table, growing_table,
+         growing_nearest, turned_table]
 
 # An equation in the text, and what a number is that must be worked out somewhere: a fraction, a decimal, or three digits and more.
 EQUATION = re.compile(r"(?<![\w/.])([(\d][\d.()/^× ]*[\d)]) = (\d[\d./]*\d)(\.\.\.)?")

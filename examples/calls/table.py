@@ -19,10 +19,12 @@ def show(path):
     with open(path, "rb") as file:
         sheet = file.read(claimtotals.MOST_BYTES + 1)
     chances = claimtotals.read_sheet(sheet).curve()
-    print(chances.text(), end="")
-    found = chances.quantile(LEVEL)
-    # Output is written late: flush, so that it is known here whether it could be.
-    print(f"level {LEVEL / claimtotals.UNIT:.9g}: sure {found.sure}, possible {found.possible}", flush=True)
+    # Output is written late: when it is closed, it is known whether it could be. Of sys.stdout Python would try to write the rest once more
+    # at the end, and give another status.
+    with open(1, "w") as output:
+        print(chances.text(), end="", file=output)
+        found = chances.quantile(LEVEL)
+        print(f"level {LEVEL / claimtotals.UNIT:.9g}: sure {found.sure}, possible {found.possible}", file=output)
 
 
 def main():

@@ -19,6 +19,8 @@ A sheet is plain text. This one has a Poisson law with mean 1 and claims of size
     W 1
     W 1
 
+`start_of_mean(1)` gives the start of this law, and `start_of_trials` that of a binomial law or of a negative binomial law of whole shape.
+
 Chances are in units of one billionth. Every number comes from a call of the proved library; a call that refuses raises `Refused`, and what
 does not fit a call is a ValueError before it.
 """
@@ -27,8 +29,10 @@ from claimtotals.layout import digits
 from claimtotals.library import MOST_BYTES, UNIT
 from claimtotals.refusals import Refused
 from claimtotals.sheets import Sheet, read_sheet
+from claimtotals.starts import Start, start_of_mean, start_of_trials
 
-__all__ = ["MOST_BYTES", "UNIT", "Curve", "Job", "Quantile", "Refused", "Row", "Sheet", "curve", "digits", "quantile", "read_sheet"]
+__all__ = ["MOST_BYTES", "UNIT", "Curve", "Job", "Quantile", "Refused", "Row", "Sheet", "Start", "curve", "digits", "quantile",
+           "read_sheet", "start_of_mean", "start_of_trials"]
 
 
 def __getattr__(name: str) -> str:

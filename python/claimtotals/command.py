@@ -3,7 +3,7 @@ from __future__ import annotations
 
 import argparse
 import re
-from typing import Callable, Optional, Sequence
+from typing import Callable, NamedTuple, Optional, Sequence
 
 from claimtotals import layout, library, streams
 from claimtotals.advice import about_excess, about_sums
@@ -11,11 +11,13 @@ from claimtotals.curves import Curve
 from claimtotals.picture import DEFAULT_TITLE, picture
 from claimtotals.refusals import Refused
 from claimtotals.sheets import read_sheet
+from claimtotals.starts import start_of_mean, start_of_trials
 from claimtotals.usage import Parser, Version, called, title
 
 COMMAND = "claimtotals"
 
-EXAMPLES = "table examples/poisson.txt --digits", "level examples/poisson.txt 0.99", "picture examples/poisson.txt -o glass.svg"
+EXAMPLES = ("start --mean 37/10", "table examples/poisson.txt --digits", "level examples/poisson.txt 0.99",
+            "picture examples/poisson.txt -o glass.svg")
 STATUS = "status: 0; 1 where a call refuses, which is told in words on standard error; 2 for wrong use, and where input or output fails"
 
 
@@ -31,12 +33,60 @@ def remark(path: str, sentence: Optional[str]) -> None:
         streams.say(COMMAND, f"{streams.source(path)}: {sentence}")
 
 
+# ---- start
+
+class Fraction(NamedTuple):
+    """As the calls take it."""
+    upper: int
+    lower: int
+
+    def __str__(self) -> str:
+        return f"{self.upper}/{self.lower}"
+
+
+def fraction(text: str) -> Fraction:
+    """A decimal is taken exactly, and nothing is reduced: the call judges. 18 digits always fit it."""
+    found = re.fullmatch("([0-9]{1,18})(?:/([0-9]{1,18}))?", text)
+    if found:
+        return Fraction(int(found[1]), int(found[2] or 1))
+    found = re.fullmatch("([0-9]+)[.,]([0-9]+)", text)
+    if not found or len(found[1] + found[2]) > 18:
+        raise argparse.ArgumentTypeError(f"{text!r:.60} is no fraction: write 37/10, 3.7 or 4, with at most 18 digits in a number")
+    return Fraction(int(found[1] + found[2]), 10 ** len(found[2]))
+
+
+def count(text: str) -> int:
+    if not re.fullmatch("[0-9]{1,18}", text):
+        raise argparse.ArgumentTypeError(f"{text!r:.60} is no whole number of at most 18 digits")
+    return int(text)
+
+
+def law_name(given: argparse.Namespace) -> str:
+    return f"mean {given.mean}" if given.mean else f"chance {given.chance}, trials {given.trials}"
+
+
+def trials_alone(given: argparse.Namespace) -> str:
+    """argparse sees to it that there is a mean or a chance, and not both."""
+    return "" if (given.chance is None) == (given.trials is None) else "--chance and --trials go together, and --mean goes alone"
+
+
+def start(given: argparse.Namespace) -> int:
+    found = start_of_mean(*given.mean) if given.mean else start_of_trials(*given.chance, given.trials)
+    streams.write_output(f"{found.line()}\n".encode())
+    return streams.SUCCESS
+
+
 # ---- table
 
 def table_text(curve: Curve, given: argparse.Namespace) -> str:
     if given.digits:
         return layout.digits_table(curve, given.decimal_comma)
     return curve.to_csv(given.decimal_comma) if given.csv else curve.text()
+
+
+def comma_alone(given: argparse.Namespace) -> str:
+    alone = given.decimal_comma and not (given.digits or given.csv)
+    return "--decimal-comma goes with --digits or --csv: the plain table is in whole units" if alone else ""
 
 
 def table(given: argparse.Namespace) -> int:
@@ -93,22 +143,47 @@ def draw(given: argparse.Namespace) -> int:
 # ---- the command line
 
 def subcommand(commands: argparse._SubParsersAction, name: str, run: Callable, description: str, *examples: str) -> Parser:
-    """A command that takes a sheet."""
+    """Its defaults are what it does, what it is called where it is refused (`about`), and what is wrong with words of which each is right
+    (`wrong`)."""
     epilog = "\n".join(["example:", *(f"  {called(COMMAND)} {name} {example}" for example in examples), "", STATUS])
     parser = commands.add_parser(name, command=COMMAND, help=description.split(":")[0], description=description, epilog=epilog)
-    parser.set_defaults(run=run)
-    parser.add_argument("sheet", metavar="SHEET", help="a file, or `-` for standard input")
+    parser.set_defaults(parser=parser, run=run, wrong=lambda given: "")
     return parser
+
+
+def add_sheet(parser: Parser) -> None:
+    """For a command that takes a sheet."""
+    parser.add_argument("sheet", metavar="SHEET", help="a file, or `-` for standard input")
+    parser.set_defaults(about=lambda given: streams.source(given.sheet))
+
+
+def add_start(commands: argparse._SubParsersAction) -> None:
+    parser = subcommand(
+        commands, "start", start,
+        "The START line of a sheet, from the law's own name: that of a Poisson law from its mean, that of a binomial law from the chance\n"
+        "of a claim in one trial and the number of trials. The chance of no claims lies in it. As each step is rounded outward, the line\n"
+        "may be wider than need be, most of all with many trials of a small chance.\n"
+        "\n"
+        "A negative binomial law of whole shape takes its shape for the trials, and for the chance the q with which its chance of no\n"
+        "claims is (1-q)^shape. Texts that write p for 1-q differ: give 1-p.",
+        "--mean 37/10", "--chance 1/20 --trials 30")
+    laws = parser.add_mutually_exclusive_group(required=True)
+    laws.add_argument("--mean", metavar="R/S", type=fraction, help="as 37/10, 4 or 3.7, which is 37/10; at most 20")
+    laws.add_argument("--chance", metavar="R/S", type=fraction, help="as 1/20, or 0.05, which is 5/100; below 1")
+    parser.add_argument("--trials", metavar="N", type=count, help="how many, 1 to 1,000; or a negative binomial law's shape")
+    parser.set_defaults(about=law_name, wrong=trials_alone)
 
 
 def add_table(commands: argparse._SubParsersAction) -> None:
     parser = subcommand(
         commands, "table", table, "The chance of each total: low, high and bound in billionths, as `curve` writes them.",
         "examples/poisson.txt", "examples/poisson.txt --digits", "examples/poisson.txt --csv --decimal-comma")
+    add_sheet(parser)
     forms = parser.add_mutually_exclusive_group()
     forms.add_argument("--digits", action="store_true", help="only the true digits of each chance")
     forms.add_argument("--csv", action="store_true", help="for a spreadsheet, with chances as decimals")
     parser.add_argument("--decimal-comma", action="store_true", help="a comma in the decimals of --digits or --csv")
+    parser.set_defaults(wrong=comma_alone)
 
 
 def add_level(commands: argparse._SubParsersAction) -> None:
@@ -117,12 +192,14 @@ def add_level(commands: argparse._SubParsersAction) -> None:
         "The total that a year's claims stay within: for the level 0.99, in 99 years of 100. The smallest such lies from `possible` to\n"
         "`sure`.",
         "examples/poisson.txt 0.99 0.995")
+    add_sheet(parser)
     parser.add_argument("levels", metavar="LEVEL", nargs="+", type=level_units, help="a chance such as 0.99, or units: 990000000")
 
 
 def add_picture(commands: argparse._SubParsersAction) -> None:
     parser = subcommand(commands, "picture", draw, "A picture of the table, as SVG: lows and highs, their gaps and bounds.",
                         'examples/poisson.txt -o glass.svg --title "Broken glass"')
+    add_sheet(parser)
     parser.add_argument("-o", "--output", metavar="FILE", default="-", help="the file to write; without it, standard output")
     parser.add_argument("--title", metavar="TEXT", type=title, default=DEFAULT_TITLE, help=f"what stands above it, else: {DEFAULT_TITLE}")
 
@@ -133,11 +210,12 @@ def arguments(words: Optional[Sequence[str]], version: Callable[[], str]) -> arg
                     epilog="\n".join(["example:", *(f"  {called(COMMAND)} {example}" for example in EXAMPLES), "", STATUS]))
     parser.add_argument("--version", action=Version, command=COMMAND, find=version)
     commands = parser.add_subparsers(metavar="COMMAND", required=True)
-    for add in add_table, add_level, add_picture:
+    for add in add_start, add_table, add_level, add_picture:
         add(commands)
     given = parser.parse_args(words)
-    if getattr(given, "decimal_comma", False) and not (given.digits or given.csv):
-        parser.error("--decimal-comma goes with --digits or --csv: the plain table is in whole units")
+    wrong = given.wrong(given)
+    if wrong:
+        given.parser.error(wrong)
     return given
 
 
@@ -146,7 +224,7 @@ def answer(given: argparse.Namespace) -> int:
     try:
         return given.run(given)
     except Refused as refusal:
-        streams.say(COMMAND, refusal.of(streams.source(given.sheet)))
+        streams.say(COMMAND, refusal.of(given.about(given)))
         return streams.REFUSED
 
 

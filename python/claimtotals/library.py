@@ -30,7 +30,8 @@ def row_types(kind: type) -> tuple:
 
 # The answer and the parameters of each call, in the header's order.
 CALLS = {
-    "claimtotals_version": (c_uint64, []),
+    "claimtotals_start_mean": (c_uint64, [c_uint64, c_uint64, POINTER(c_uint64), POINTER(c_uint64)]),
+    "claimtotals_start_trials": (c_uint64, [c_uint64, c_uint64, c_uint64, POINTER(c_uint64), POINTER(c_uint64)]),
     "claimtotals_curve": (c_uint64, [
         c_uint64, c_uint64, POINTER(c_int64), POINTER(c_int64), c_uint64, c_uint64, c_uint64, *row_types(c_uint64), *row_types(c_int64),
         *row_types(c_int64), *row_types(c_int64), *row_types(c_int64), POINTER(c_size_t),
@@ -43,6 +44,7 @@ CALLS = {
     "claimtotals_quantile": (c_uint64, [
         *row_types(c_int64), *row_types(c_int64), c_int64, POINTER(c_size_t), POINTER(c_size_t), POINTER(c_size_t),
     ]),
+    "claimtotals_version": (c_uint64, []),
 }
 
 

@@ -3,6 +3,7 @@ from __future__ import annotations
 
 import argparse
 import os
+import re
 import sys
 from typing import Callable, NoReturn, Sequence
 
@@ -32,6 +33,8 @@ class Parser(argparse.ArgumentParser):
     def __init__(self, command: str, **words: object) -> None:
         super().__init__(**words, formatter_class=argparse.RawDescriptionHelpFormatter, allow_abbrev=False)
         self.command = command
+        # As Python 3.14 has it: what begins like a number is no option, so that -1/2 is told to be no fraction.
+        self._negative_number_matcher = re.compile(r"-\.?\d")
 
     def error(self, message: str) -> NoReturn:
         streams.say(self.command, f"{streams.on_one_line(message)}; {' '.join(self.format_usage().split())}")

@@ -5,7 +5,7 @@ from decimal import Decimal
 from fractions import Fraction
 from unittest import mock
 
-from claimtotals import Job, Refused, Sheet, curve, digits, quantile
+from claimtotals import Job, Refused, Sheet, curve, digits, quantile, start_of_mean, start_of_trials
 
 # The paper's P2, with the weight 1.
 JOB = Job(1, 1, (-1, 0, 0, 0), (3, 0, 0, 0), 250000000, 250000000, 4)
@@ -58,6 +58,12 @@ def takers():
     yield "b[0]", "signed", lambda number: Job.of(1, [(0, number)], (1, 1), 1)
     yield "start_high", "unsigned", lambda number: Job.of(1, [(0, 1)], (1, number), 1)
     yield "last", "unsigned", lambda number: Job.of(1, [(0, 1)], (1, 1), number)
+    yield "upper", "unsigned", start_of_mean
+    yield "upper", "unsigned", lambda number: start_of_mean(number, 3)
+    yield "lower", "unsigned", lambda number: start_of_mean(1, number)
+    yield "upper", "unsigned", lambda number: start_of_trials(number, 3, 1)
+    yield "lower", "unsigned", lambda number: start_of_trials(0, number, 1)
+    yield "trials", "unsigned", lambda number: start_of_trials(0, 1, number)
 
 
 class NoCall(unittest.TestCase):
@@ -140,6 +146,8 @@ class Taken(unittest.TestCase):
                 self.assertIs(type(found[three].total), int)
                 self.assertEqual(quantile([one, three], [three, three], three), (1, 0))
                 self.assertEqual(digits(one, three), "at most 0.000000003")
+                self.assertEqual(start_of_mean(three, three), (367879441, 367879442))
+                self.assertEqual(start_of_trials(one, three, one), (666666666, 666666667))
                 self.assertEqual(Sheet(JOB, [one, three]).text().splitlines()[-2:], [b"W 1", b"W 3"])
 
     def test_all_bits(self):
@@ -148,7 +156,9 @@ class Taken(unittest.TestCase):
                 (1, lambda: curve(JOB._replace(order=2 ** 64 - 1), [1])), (3, lambda: curve(with_term("a", 0, 2 ** 63 - 1), [1])),
                 (3, lambda: curve(with_term("b", 0, -2 ** 63), [1])), (6, lambda: curve(JOB, [2 ** 64 - 1])),
                 (32, lambda: quantile([1], [1], 2 ** 63 - 1)), (32, lambda: quantile([1], [1], -2 ** 63)),
-                (33, lambda: quantile([-2 ** 63], [2 ** 63 - 1], 1))):
+                (33, lambda: quantile([-2 ** 63], [2 ** 63 - 1], 1)), (41, lambda: start_of_mean(2 ** 64 - 1)),
+                (41, lambda: start_of_mean(1, 2 ** 64 - 1)), (41, lambda: start_of_trials(0, 2 ** 64 - 1, 1)),
+                (42, lambda: start_of_trials(2 ** 64 - 1, 1, 1)), (43, lambda: start_of_trials(0, 1, 2 ** 64 - 1))):
             with self.subTest(number), self.assertRaises(Refused) as caught:
                 call()
             self.assertEqual(caught.exception.number, number)

@@ -9,7 +9,7 @@ import typing
 import unittest
 
 import claimtotals
-from claimtotals import Job, Refused, curve, library, quantile, read_sheet
+from claimtotals import Job, Refused, curve, library, quantile, read_sheet, start_of_mean, start_of_trials
 
 # All but `__main__`, which is the command itself and would run.
 FILES = [path for path in pathlib.Path(claimtotals.__file__).parent.glob("*.py") if not path.name.startswith("_")]
@@ -26,7 +26,8 @@ def load_tests(_, tests, pattern):
 class Names(unittest.TestCase):
     def test_all(self):
         self.assertEqual(set(claimtotals.__all__), {
-            "MOST_BYTES", "UNIT", "Curve", "Job", "Quantile", "Refused", "Row", "Sheet", "curve", "digits", "quantile", "read_sheet"})
+            "MOST_BYTES", "UNIT", "Curve", "Job", "Quantile", "Refused", "Row", "Sheet", "Start", "curve", "digits", "quantile",
+            "read_sheet", "start_of_mean", "start_of_trials"})
         for name in claimtotals.__all__:
             self.assertTrue(hasattr(claimtotals, name), name)
 
@@ -36,7 +37,7 @@ class Names(unittest.TestCase):
     def test_examples(self):
         """There are some in the comments."""
         names = [module.__name__ for module in MODULES if any(test.examples for test in doctest.DocTestFinder().find(module))]
-        self.assertLessEqual({"claimtotals.curves", "claimtotals.layout", "claimtotals.sheets"}, set(names))
+        self.assertLessEqual({"claimtotals.curves", "claimtotals.layout", "claimtotals.sheets", "claimtotals.starts"}, set(names))
 
     def test_version(self):
         """It is that of the library, which has it as major * 10,000 + minor * 100 + patch."""
@@ -67,7 +68,8 @@ def functions():
 class Types(unittest.TestCase):
     def test_functions(self):
         """Each parameter has a type that can be looked up, and so has what is returned."""
-        some = {"curve", "read_sheet", "Job.of", "Sheet.text", "Sheet.curve", "Curve.quantile", "Curve.__getitem__", "Row.digits"}
+        some = {"curve", "read_sheet", "start_of_mean", "Job.of", "Sheet.text", "Sheet.curve", "Start.line", "Curve.quantile",
+                "Curve.__getitem__", "Row.digits"}
         self.assertLessEqual(some, set(dict(functions())))
         for name, function in functions():
             with self.subTest(name):
@@ -75,7 +77,7 @@ class Types(unittest.TestCase):
                 self.assertEqual(set(typing.get_type_hints(function)), {*parameters, "return"})
 
     def test_fields(self):
-        for kind in claimtotals.Job, claimtotals.Sheet, claimtotals.Row, claimtotals.Quantile:
+        for kind in claimtotals.Job, claimtotals.Sheet, claimtotals.Row, claimtotals.Quantile, claimtotals.Start:
             self.assertEqual(tuple(typing.get_type_hints(kind)), kind._fields)
         self.assertEqual(tuple(typing.get_type_hints(claimtotals.Curve)), ("low", "high", "bound"))
 
@@ -111,6 +113,11 @@ def level(total):
     return quantile([0] * total + [1], [1] * (total + 1), 1)
 
 
+def starts(number):
+    """Of no trial that can bring a claim, and of a mean of 1."""
+    return start_of_trials(0, number, number), start_of_mean(number, number)
+
+
 class Threads(unittest.TestCase):
     def setUp(self):
         """Python changes from one thread to another as often as it can."""
@@ -120,7 +127,7 @@ class Threads(unittest.TestCase):
     def test_at_once(self):
         row = (250000000, 500000000, 250000000, 0, 0)
         asked = {binomial: lambda _: (row, row, (0, 1, 2, 1, 2)), sheet: lambda number: (number, 7), word: lambda number: b"%dx" % number,
-                 level: lambda number: (number, 0)}
+                 level: lambda number: (number, 0), starts: lambda _: ((10 ** 9, 10 ** 9), (367879441, 367879442))}
         calls = [(call, 1 + count % 300) for count in range(1200) for call in asked]
         with concurrent.futures.ThreadPoolExecutor(8) as threads:
             found = list(threads.map(lambda given: given[0](given[1]), calls))

@@ -3,7 +3,7 @@ import copy
 import pickle
 import unittest
 
-from claimtotals import UNIT, Job, Refused, curve, quantile, read_sheet
+from claimtotals import UNIT, Job, Refused, curve, quantile, read_sheet, start_of_mean, start_of_trials
 
 # The paper's P1 as a sheet and P2 as a job.
 TEXT = b"LAW 1 1\nTERM 0 1\nSTART 367879441 367879442\nLAST 3\nSEVERITY 2\nW 1\nW 1\n"
@@ -31,6 +31,9 @@ CASES = {
     32: ("Level", 0, "", lambda: quantile([1], [1], 0)),
     33: ("Entry", 1, "place", lambda: quantile([1, 2], [1, 1], 1)),
     34: ("Unreached", 0, "", lambda: quantile([1], [1], 2)),
+    41: ("Fraction", 0, "", lambda: start_of_mean(37, 0)),
+    42: ("Chance", 0, "", lambda: start_of_trials(5, 1, 30)),
+    43: ("Trials", 0, "", lambda: start_of_trials(1, 20, 0)),
 }
 
 
@@ -80,13 +83,13 @@ class Attributes(unittest.TestCase):
 
     def test_source(self):
         """With the name of a file."""
-        for number, between in (24, ", line 6: "), (21, ": "), (9, ", total 1: "):
+        for number, between in (24, ", line 6: "), (21, ": "), (9, ", total 1: "), (41, ": "):
             refusal = raised(CASES[number][3])
             self.assertTrue(refusal.of("a.txt").startswith(f"a.txt{between}refused by {number}: "), refusal.of("a.txt"))
 
     def test_copies(self):
         """As where it is raised in another process."""
-        for number in 6, 23, 24, 33:
+        for number in 6, 23, 24, 33, 41:
             refusal = raised(CASES[number][3])
             for other in pickle.loads(pickle.dumps(refusal)), copy.copy(refusal):
                 with self.subTest(number):
