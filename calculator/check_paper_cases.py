@@ -1,5 +1,5 @@
-"""Sets the calls in crates/cases/specs/Cases.antt beside outward.py, sheet.py, level.py and program.py, and the lows and highs of curves
-beside the exact amounts of exact.py. Every row must be read, and agree. Short names are read as the file defines them, with parameters or
+"""Sets the calls in crates/cases/specs/Cases.antt beside outward.py, sheet.py, level.py, start.py and program.py, and the lows and highs
+of curves beside the exact amounts of exact.py. Every row must be read, and agree. Short names are read as the file defines them, with parameters or
 without; words that it takes from elsewhere are in WORDS. Another file of this form can be given as an argument."""
 import operator
 import pathlib
@@ -14,6 +14,7 @@ from level import level_query
 from outward import Job, Lent, curve
 from program import output
 from sheet import read_sheet
+from start import start_of_mean, start_of_trials
 
 SOURCE = pathlib.Path(__file__).parent.parent / "crates/cases/specs/Cases.antt"
 
@@ -59,12 +60,25 @@ def on_level(low, high, level):
     return {"answer": {"answer": answer(said.number, said.place), "sure": said.sure, "possible": said.possible}}
 
 
+def start_record(said):
+    return {"start": {"answer": answer(said.number, 0), "ends": {"low": said.low, "high": said.high}}}
+
+
+def on_mean(upper, lower):
+    return start_record(start_of_mean(upper, lower))
+
+
+def on_trials(upper, lower, trials):
+    return start_record(start_of_trials(upper, lower, trials))
+
+
 def on_program(sheet):
     return {"text": output(bytes(sheet)).decode()}
 
 
 # each with the number of rows that there are at least
-KINDS = {"curve": (on_curve, 13), "reader": (on_reader, 8), "level": (on_level, 13), "program": (on_program, 4)}
+KINDS = {"curve": (on_curve, 13), "reader": (on_reader, 8), "level": (on_level, 13), "mean": (on_mean, 7), "trials": (on_trials, 10),
+         "program": (on_program, 4)}
 
 
 class Row(NamedTuple):

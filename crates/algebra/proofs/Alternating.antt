@@ -10,7 +10,7 @@ use Rattle.algebra.specs.Semiring.{Semiring, nat}
 use Rattle.algebra.specs.Ring.{Ring}
 use Rattle.algebra.specs.Order.{OrderedRing}
 use Rattle.algebra.specs.Sum.{sum}
-use Rattle.algebra.specs.Alternating.{isEven, signedAt, alternating, AlternatingSuc, AlternatingAdd, AlternatingBounds}
+use Rattle.algebra.specs.Alternating.{isEven, signedAt, alternating, slack, AlternatingSuc, AlternatingAdd, AlternatingBounds}
 use Rattle.algebra.specs.Solver.{var, null, unit, _:+_, _:*_, :-_}
 use Rattle.algebra.proofs.Semiring.{nat-suc, nat-zero, zero-add}
 use Rattle.algebra.proofs.Ring.{neg-zero, neg-neg, neg-add, mul-neg}
@@ -67,6 +67,10 @@ module _ (R : Ring) where
   alternating-suc n a = sum-shift (R .semiring) n (λ j. signedAt R j (a j))
       ∙ ap (λ (x : A). a 0 ⊹ x) (sum-neg n _ (λ j. signedAt R j (a (suc j))) (λ j l. signed-suc j (a (suc j))))
 
+  pub alternating-one : (a : ℕ → A) → alternating R 1 a ≡ a 0
+  alternating-one a = alternating-suc 0 a ∙ ap (λ (x : A). a 0 ⊹ neg x) (alternating-zero (λ i. a (suc i)))
+      ∙ ap (λ (x : A). a 0 ⊹ x) (neg-zero R) ∙ R .semiring .add-zero (a 0)
+
   pub alternating-cong : (n : ℕ) {a b : ℕ → A} → ((i : ℕ) → a i ≡ b i) → alternating R n a ≡ alternating R n b
   unfolding alternating
   alternating-cong n h = sum-cong (R .semiring) n (λ j l. ap (signedAt R j) (h j))
@@ -96,23 +100,16 @@ module _ (O : OrderedRing) where
   abbrev R : Ring
   R = O .ring
 
-  abbrev n· : ℕ → A → A
-  n· n e = nat (R .semiring) n · e
-
   pub alternating-bounds : AlternatingBounds O
   alternating-bounds e e-nonneg zero a nonneg steps = (
-    rewritten O (nonneg 0 (omega arith)) (nothing e) (sym one),
-    le-of-eq O (one ∙ more (a 0) e),
+    rewritten O (nonneg 0 (omega arith)) (nothing e) (sym (alternating-one R a)),
+    le-of-eq O (alternating-one R a ∙ more (a 0) e),
   )
     where
-      one : alternating R 1 a ≡ a 0
-      one = alternating-suc R 0 a ∙ ap (λ (x : A). a 0 ⊹ neg x) (alternating-zero R (λ i. a (suc i)))
-          ∙ solve R (a 0 ∷ []) (var 0 :+ :- null) (var 0) tt
-
-      nothing : (e : A) → 𝟘 ≡ neg (n· 0 e)
+      nothing : (e : A) → 𝟘 ≡ neg (slack O 0 e)
       nothing e = solve R (e ∷ []) null (:- (null :* var 0)) tt ∙ ap (λ (m : A). neg (m · e)) (sym (nat-zero (R .semiring)))
 
-      more : (x e : A) → x ≡ x ⊹ n· 0 e
+      more : (x e : A) → x ≡ x ⊹ slack O 0 e
       more x e = solve R (x ∷ e ∷ []) (var 0) (var 0 :+ null :* var 1) tt ∙ ap (λ (m : A). x ⊹ m · e) (sym (nat-zero (R .semiring)))
   alternating-bounds e e-nonneg (suc n) a nonneg steps = by (alternating R (suc n) (λ i. a (suc i)))
       (alternating-bounds e e-nonneg n (λ i. a (suc i)) (λ i l. nonneg (suc i) (omega arith)) (λ i l. steps (suc i) (omega arith)))
@@ -124,11 +121,11 @@ module _ (O : OrderedRing) where
       kept : (x m e : A) → x ⊹ neg (neg (m · e)) ⊹ e ≡ x ⊹ (m ⊹ 𝟙) · e
       kept x m e = solve R (x ∷ m ∷ e ∷ []) (var 0 :+ :- :- (var 1 :* var 2) :+ var 2) (var 0 :+ (var 1 :+ unit) :* var 2) tt
 
-      by : (X : A) → (neg (n· n e) ⊑ X) × (X ⊑ a 1 ⊹ n· n e) → {Y : A} → Y ≡ a 0 ⊹ neg X
-          → (neg (n· (suc n) e) ⊑ Y) × (Y ⊑ a 0 ⊹ n· (suc n) e)
+      by : (X : A) → (neg (slack O n e) ⊑ X) × (X ⊑ a 1 ⊹ slack O n e) → {Y : A} → Y ≡ a 0 ⊹ neg X
+          → (neg (slack O (suc n) e) ⊑ Y) × (Y ⊑ a 0 ⊹ slack O (suc n) e)
       by X (low, high) y = (
         rewritten O (add-mono O (O .le-refl (a 0))
-            (neg-mono O (O .le-trans high (add-mono O (steps 0 (omega arith)) (O .le-refl (n· n e))))))
+            (neg-mono O (O .le-trans high (add-mono O (steps 0 (omega arith)) (O .le-refl (slack O n e))))))
             (taken (a 0) (nat (R .semiring) n) e ∙ ap (λ (m : A). neg (m · e)) (sym (nat-suc (R .semiring) n))) (sym y),
         rewritten O (add-mono O (add-mono O (O .le-refl (a 0)) (neg-mono O low)) e-nonneg)
             (R .semiring .add-zero (a 0 ⊹ neg X) ∙ sym y)

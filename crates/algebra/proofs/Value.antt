@@ -133,13 +133,13 @@ unfolding zeroTo
 value-zeroTo n g = value-accumulate (suc n) g
 
 -- ---- products
-pub product-zero : (g : ℕ → Fraction) → value (product 0 g) ≡ 𝟙
+pub value-product-zero : (g : ℕ → Fraction) → value (product 0 g) ≡ 𝟙
 unfolding product accumulate
-product-zero g = value-one
+value-product-zero g = value-one
 
-pub product-suc : (n : ℕ) (g : ℕ → Fraction) → value (product (suc n) g) ≡ value (product n g) · value (g n)
+pub value-product-suc : (n : ℕ) (g : ℕ → Fraction) → value (product (suc n) g) ≡ value (product n g) · value (g n)
 unfolding product accumulate
-product-suc n g = value-times (accumulate (whole (pos 1)) _⊗_ n g) (g n)
+value-product-suc n g = value-times (accumulate (whole (pos 1)) _⊗_ n g) (g n)
 
 -- ---- the order of fractions, as that of their values
 pub ≼-refl : (x : Fraction) → x ≼ x

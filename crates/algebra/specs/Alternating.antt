@@ -1,7 +1,7 @@
 -- Alternating sums a_0 - a_1 + a_2 - .. over a ring, and what they obey.
 use mathlib.Core.Path.{_≡_}
 use mathlib.Core.Bool.{Bool, true, not, cond}
-use Prim.Native.Nat.{ℕ, zero, suc, _+_, _<_}
+use Prim.Native.Nat.{ℕ, zero, suc, _+_, _≤_, _<_}
 use Rattle.algebra.specs.Semiring.{Semiring, nat}
 use Rattle.algebra.specs.Ring.{Ring, Number}
 use Rattle.algebra.specs.Order.{OrderedRing}
@@ -33,12 +33,20 @@ module _ (R : Ring) where
   AlternatingAdd = (m n : ℕ) (a : ℕ → A)
       → alternating R (m + n) a ≡ alternating R m a ⊹ signedAt R m (alternating R n (λ i. a (m + i)))
 
--- where no number is below zero, and none larger than the one before it by more than e, an alternating sum lies from zero to its first
--- number, but for an e for each number after the first
-abbrev pub AlternatingBounds : OrderedRing → Type 0
-AlternatingBounds O =
-    let R = O .ring .semiring in
-    (e : R .carrier) → O ._⊑_ (R .𝟘) e → (n : ℕ) (a : ℕ → R .carrier)
-    → ((i : ℕ) → i < suc n → O ._⊑_ (R .𝟘) (a i)) → ((i : ℕ) → suc i < suc n → O ._⊑_ (a (suc i)) (R ._⊹_ (a i) e))
-    → O ._⊑_ (O .ring .neg (R ._·_ (nat R n) e)) (alternating (O .ring) (suc n) a)
-    × O ._⊑_ (alternating (O .ring) (suc n) a) (R ._⊹_ (a 0) (R ._·_ (nat R n) e))
+module _ (O : OrderedRing) where
+  open OrderedRing O using (_⊑_)
+  open Ring (O .ring) using (neg)
+  open Semiring (O .ring .semiring) using (carrier as A, 𝟘, _⊹_, _·_)
+
+  infix 4 _⊑_
+  infixl 6 _⊹_
+  infixl 7 _·_
+  -- n times e
+  abbrev pub slack : ℕ → A → A
+  slack n e = nat (O .ring .semiring) n · e
+
+  -- where no number is below zero, and none larger than the one before it by more than e, an alternating sum lies from zero to its first
+  -- number, but for an e for each number after the first
+  abbrev pub AlternatingBounds : Type 0
+  AlternatingBounds = (e : A) → 𝟘 ⊑ e → (n : ℕ) (a : ℕ → A) → ((i : ℕ) → i ≤ n → 𝟘 ⊑ a i) → ((i : ℕ) → i < n → a (suc i) ⊑ a i ⊹ e)
+      → (neg (slack n e) ⊑ alternating (O .ring) (suc n) a) × (alternating (O .ring) (suc n) a ⊑ a 0 ⊹ slack n e)

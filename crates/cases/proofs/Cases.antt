@@ -3,7 +3,7 @@ use mathlib.Core.Path.{ap}
 use mathlib.Core.Bool.{Bool, _&&_}
 use mathlib.Core.List.{List, []}
 use lib.Dec.{T, eqb, eqb→eq}
-use lib.IntN.{ℤ}
+use lib.IntN.{ℤ, pos}
 use lib.ListN.{length, getD}
 use Prim.Native.Nat.{ℕ}
 use Rattle.algebra.specs.Slice.{listed}
@@ -15,6 +15,8 @@ use Rattle.model.specs.Weights.{divisorZero}
 use Rattle.model.specs.Job.{lawOf, startOf, jobOf}
 use Rattle.model.specs.Answer.{Answer, refused, firstOf}
 use Rattle.outward.specs.Division.{floorDiv, ceilDiv}
+use Rattle.start.specs.Step.{times, repeated}
+use Rattle.start.specs.Call.{Started, term, series, ofMean, ofTrials, startOfMean, startOfTrials}
 use Rattle.enclosure.specs.Entry.{scaled, rounded}
 use Rattle.rows.specs.Curve.{factor, sumsZero, sumsNext, entryAt, withNext, history, curveRows}
 use Rattle.rows.specs.Layout.{Lent, lentRows}
@@ -32,9 +34,9 @@ use Rattle.sheet.specs.Call.{Told, told, rowOnReturn}
 use Rattle.fault.specs.declared.Part.{Part}
 use Rattle.fault.specs.Call.{firstNoNumber, faultyWord, partOf, firstPart, faultyPart}
 use Rattle.report.specs.Report.{curveText, reportText}
-use Rattle.cases.specs.Cases.{Case, curve, reader, level, program, Holds, cases, CasesHold, test}
+use Rattle.cases.specs.Cases.{Case, curve, reader, level, mean, trials, program, Holds, cases, CasesHold, test}
 use Rattle.cases.specs.Cases.{numbers, sameAnswer, sameRow, rows, sameLent, wholeNumbers, terms, sameBytes, sameTold}
-use Rattle.cases.specs.Cases.{partNumbers, samePart, queryNumbers, sameQuantiles}
+use Rattle.cases.specs.Cases.{partNumbers, samePart, queryNumbers, sameQuantiles, endNumbers, sameStarted}
 
 same-answer : Equates Answer sameAnswer
 same-answer x y t = ap (λ l. refused (getD l 0 0) (getD l 1 0)) (same-list ℕ eqb eqb→eq (numbers x) (numbers y) t)
@@ -85,6 +87,22 @@ same-quantiles x y t =
     ap (λ l. record { answer = refused (getD l 0 0) (getD l 1 0); sure = getD l 2 0; possible = getD l 3 0 })
     (same-bytes (queryNumbers x) (queryNumbers y) t)
 
+-- an answer and a start, from the lists that are compared
+startedBy : Answer → List ℤ → Started
+startedBy answer ends = record { answer = answer; ends = record { low = getD ends 0 (pos 0); high = getD ends 1 (pos 0) } }
+
+same-started : Equates Started sameStarted
+unfolding startedBy
+same-started x y t = λ i. startedBy
+    (same-answer (x .answer) (y .answer) (and-left answered ended t) i)
+    (same-row (endNumbers x) (endNumbers y) (and-right answered ended t) i)
+  where
+    answered : Bool
+    answered = sameAnswer (x .answer) (y .answer)
+
+    ended : Bool
+    ended = sameRow (endNumbers x) (endNumbers y)
+
 -- a row that passes the test holds
 sound : (c : Case) → T (test c) → Holds c
 sound (curve job weights lent answer after) t = (
@@ -118,6 +136,8 @@ sound (reader s row says after word part) t =
     placed : Bool
     placed = samePart (faultyPart (length row) s) part
 sound (level low high L answer) t = same-quantiles (quantiles low high L) answer t
+sound (mean r s answer) t = same-started (startOfMean r s) answer t
+sound (trials r s N answer) t = same-started (startOfTrials r s N) answer t
 sound (program s text) t = same-bytes (reportText s) (ascii text) t
 
 pub cases-hold : CasesHold
@@ -127,5 +147,6 @@ unfolding curveAnswer curveLent rowAfter rangeFault firstFault curveRows history
     reading lawLine termLines startLine lastLine severityLine weightLines line allNumbers firstNoNumber firstPart
     number valueFrom words longer afterLines before after has
     quantiles quantileOf
+    startOfMean startOfTrials ofMean ofTrials series term repeated times
     reportText curveText totalLines lineText spaced decimal digitsWithin
 cases-hold c m = sound c (each-passes Case test cases tt c m)

@@ -14,6 +14,7 @@ use Rattle.model.specs.declared.Start.{Start}
 use Rattle.model.specs.declared.Job.{Job}
 use Rattle.model.specs.Job.{lawOf, startOf, jobOf}
 use Rattle.model.specs.Answer.{Answer, accepted, refused}
+use Rattle.start.specs.Call.{Started, startOfMean, startOfTrials}
 use Rattle.rows.specs.Layout.{Lent, lentRows}
 use Rattle.compound.specs.Call.{curveAnswer, curveLent}
 use Rattle.quantile.specs.Call.{Quantiles, quantiles}
@@ -32,6 +33,10 @@ pub data Case : Type 0 where
   reader : List ℕ → List ℕ → Told → List ℕ → List ℕ → Part → Case
   -- the low row, the high row and the level, the answer with its two totals
   level : List ℤ → List ℤ → ℤ → Quantiles → Case
+  -- the mean's upper and lower number, and the answer with its start
+  mean : ℕ → ℕ → Started → Case
+  -- the chance's upper and lower number and the number of trials, likewise
+  trials : ℕ → ℕ → ℕ → Started → Case
   -- the sheet's bytes, and the text that the program writes
   program : List ℕ → String → Case
 
@@ -42,6 +47,8 @@ Holds (reader s row says after word part) =
     (told (reading (length row) s) ≡ says) × (rowOnReturn (reading (length row) s) row ≡ after)
     × (faultyWord (length row) s ≡ word) × (faultyPart (length row) s ≡ part)
 Holds (level low high L answer) = quantiles low high L ≡ answer
+Holds (mean r s answer) = startOfMean r s ≡ answer
+Holds (trials r s N answer) = startOfTrials r s N ≡ answer
 Holds (program s text) = reportText s ≡ ascii text
 
 -- ---- jobs
@@ -103,6 +110,14 @@ totals sure possible = record { answer = accepted; sure = sure; possible = possi
 -- a refusal's totals are 0
 abbrev noTotals : (number place : ℕ) → Quantiles
 noTotals number place = record { answer = refused number place; sure = 0; possible = 0 }
+
+-- ---- starts
+abbrev started : (low high : ℕ) → Started
+started low high = record { answer = accepted; ends = record { low = pos low; high = pos high } }
+
+-- a refusal's numbers are 0
+abbrev notStarted : (number : ℕ) → Started
+notStarted number = record { answer = refused number 0; ends = record { low = pos 0; high = pos 0 } }
 
 -- ---- the table of cases
 abbrev call : (job : Job) (weights : List ℕ) (answer : Answer) (after : ℕ → Lent) → Case
@@ -211,6 +226,28 @@ cases =
     ∷ level (negℤ (pos 2000000000) ∷ pos 2000000000 ∷ []) (pos 2000000000 ∷ pos 2000000000 ∷ []) (pos 1000000000) (noTotals 34 0)
     -- a sum that reaches the level and falls again
     ∷ level (pos 2 ∷ negℤ (pos 5) ∷ []) (pos 2 ∷ negℤ (pos 5) ∷ []) (pos 2) (totals 0 0)
+    -- P1's law is that of mean 1, and P2's that of two trials of chance 1/2
+    ∷ mean 1 1 (started 367879441 367879442)
+    ∷ trials 1 2 2 (started 250000000 250000000)
+    -- a rest, of which every term is rounded, beside three wholes; two trials of chance 1/3
+    ∷ mean 37 10 (started 24723525 24723527)
+    ∷ trials 1 3 2 (started 444444444 444444445)
+    -- "r from 0 up"; a mean of 20 is not above it
+    ∷ mean 0 1 (started 1000000000 1000000000)
+    ∷ mean 20000 1000 (started 1 3)
+    ∷ trials 0 1 1000 (started 1000000000 1000000000)
+    ∷ trials 999 1000 1000 (started 0 1)
+    -- "with 41 an s outside 1 to 1,000 or a mean above 20"
+    ∷ mean 0 0 (notStarted 41)
+    ∷ mean 1 1001 (notStarted 41)
+    ∷ mean 20001 1000 (notStarted 41)
+    -- "then 42 a chance of 1 or more", also one above 20, "then 43 a number of trials outside 1 to 1,000"
+    ∷ trials 1 0 0 (notStarted 41)
+    ∷ trials 1001 1001 1 (notStarted 41)
+    ∷ trials 1 1 0 (notStarted 42)
+    ∷ trials 21 1 1 (notStarted 42)
+    ∷ trials 0 1 0 (notStarted 43)
+    ∷ trials 1 2 1001 (notStarted 43)
     ∷ []
 
 -- the one claim
@@ -263,6 +300,12 @@ queryNumbers x = x .answer .number ∷ x .answer .place ∷ x .sure ∷ x .possi
 abbrev pub sameQuantiles : Quantiles → Quantiles → Bool
 sameQuantiles x y = sameBytes (queryNumbers x) (queryNumbers y)
 
+abbrev pub endNumbers : Started → List ℤ
+endNumbers x = x .ends .low ∷ x .ends .high ∷ []
+
+abbrev pub sameStarted : Started → Started → Bool
+sameStarted x y = sameAnswer (x .answer) (y .answer) && sameRow (endNumbers x) (endNumbers y)
+
 abbrev pub test : Case → Bool
 test (curve job weights lent answer after) =
     sameAnswer (curveAnswer job weights lent) answer && sameLent (curveLent job weights lent) after
@@ -271,4 +314,6 @@ test (reader s row says after word part) =
     && (sameBytes (rowOnReturn (reading (length row) s) row) after
     && (sameBytes (faultyWord (length row) s) word && samePart (faultyPart (length row) s) part))
 test (level low high L answer) = sameQuantiles (quantiles low high L) answer
+test (mean r s answer) = sameStarted (startOfMean r s) answer
+test (trials r s N answer) = sameStarted (startOfTrials r s N) answer
 test (program s text) = sameBytes (reportText s) (ascii text)

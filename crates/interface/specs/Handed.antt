@@ -27,5 +27,5 @@ abbrev pub totals : Answer → ℕ → ℕ → Quantiles
 totals answer sure possible = record { answer = answer; sure = sure; possible = possible }
 
 -- what the calls for a start tell
-abbrev pub ends : Answer → ℕ → ℕ → Started
-ends answer low high = record { answer = answer; ends = record { low = pos low; high = pos high } }
+abbrev pub tellsStart : Answer → ℕ → ℕ → Started
+tellsStart answer low high = record { answer = answer; ends = record { low = pos low; high = pos high } }

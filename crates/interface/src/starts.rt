@@ -5,10 +5,10 @@ use start::mean;
 use start::reason_number;
 ghost use mathlib.Core.Path.{_≡_};
 ghost use Rattle.start.specs.Call.{paper, startOfMean, startOfTrials};
-ghost use Rattle.interface.specs.Handed.{returned, ends};
+ghost use Rattle.interface.specs.Handed.{returned, tellsStart};
 
 fn hand_over(answer: StartAnswer, low: &mut u64, high: &mut u64) -> u64
-    ensures { λ r. ⌜ ends (returned r 0) (now (low .exit)) (now (high .exit)) ≡ paper answer ⌝ }
+    ensures { λ r. ⌜ tellsStart (returned r 0) (now (low .exit)) (now (high .exit)) ≡ paper answer ⌝ }
 {
     *low = 0;
     *high = 0;
@@ -29,7 +29,7 @@ pub extern "C" fn claimtotals_start_mean(
     low: &mut u64,
     high: &mut u64,
 ) -> u64
-    ensures { λ r. ⌜ ends (returned r 0) (now (low .exit)) (now (high .exit)) ≡ startOfMean upper lower ⌝ }
+    ensures { λ r. ⌜ tellsStart (returned r 0) (now (low .exit)) (now (high .exit)) ≡ startOfMean upper lower ⌝ }
 {
     hand_over(mean(upper, lower), low, high)
 }
@@ -42,7 +42,7 @@ pub extern "C" fn claimtotals_start_trials(
     low: &mut u64,
     high: &mut u64,
 ) -> u64
-    ensures { λ r. ⌜ ends (returned r 0) (now (low .exit)) (now (high .exit)) ≡ startOfTrials upper lower trials ⌝ }
+    ensures { λ r. ⌜ tellsStart (returned r 0) (now (low .exit)) (now (high .exit)) ≡ startOfTrials upper lower trials ⌝ }
 {
     hand_over(start::trials(upper, lower, trials), low, high)
 }

@@ -1,4 +1,5 @@
--- The floor by the division with remainder of natural numbers, at each sign; the ceiling is the floor with the signs turned.
+-- The floor by the division with remainder of natural numbers, at each sign; the ceiling is the floor with the signs turned. Of natural
+-- numbers the ceiling is one too; and an interval is known by its two ends.
 use mathlib.Core.Path.{_≡_, refl}
 use Prim.Native.Nat.{ℕ, zero, suc, _+_, _*_, _/_, _≤_, _<_, zero-le, suc-le-suc}
 use native.Mathlib.Nat.{mul-div-le, lt-mul-div-succ, div-le-self, zero-div}
@@ -60,9 +61,7 @@ ceil-pos zero n = rw (zero-div n)
 ceil-pos (suc a) n = refl
 
 pub ceilℕ-is : (a n : ℕ) → 1 ≤ n → (a ≤ n * ceilℕ a n) × (n * ceilℕ a n < a + n)
-unfolding ceilℕ
-ceilℕ-is zero n l = (zero-le, omega arith)
-ceilℕ-is (suc a) n l = (omega (arith, lt-mul-div-succ a l), omega (arith, mul-div-le a n))
+ceilℕ-is a n l = let (h, k) = rw (ceil-pos a n) at (ceil-is (pos a) n l) in (omega signed, omega signed)
 
 -- ---- an interval, end by end
 pub same-ends : {l l′ h h′ : ℤ} → l ≡ l′ → h ≡ h′ → _≡_ {A = Interval} (record { low = l; high = h }) (record { low = l′; high = h′ })

@@ -23,7 +23,7 @@ module _ (O : OrderedRing) where
   abbrev natural : ℕ → A
   natural = nat (O .ring .semiring)
 
-  times-natural : (n : ℕ) (z : ℤ) → integer (pos n *ℤ z) ≡ natural n · integer z
+  pub times-natural : (n : ℕ) (z : ℤ) → integer (pos n *ℤ z) ≡ natural n · integer z
   times-natural n z = int-mul (O .ring) (pos n) z ∙ ap (λ (v : A). v · integer z) (int-pos (O .ring) n)
 
   pub floor-le : (z : ℤ) (n : ℕ) {v : A} → 1 ≤ n → integer z ⊑ natural n · v → integer (floorDiv z n) ⊑ v

@@ -8,18 +8,17 @@ use Rattle.algebra.specs.Semiring.{Semiring, nat}
 use Rattle.algebra.specs.Ring.{Ring, int}
 use Rattle.algebra.specs.Alternating.{signedAt, alternating}
 use Rattle.algebra.specs.Fraction.{Fraction, over, whole, _⊗_, power}
-use Rattle.algebra.proofs.Semiring.{ring, nat-mul, nat-one}
+use Rattle.algebra.proofs.Semiring.{ring, mul-left-comm, nat-mul, nat-one}
 use Rattle.algebra.proofs.Ring.{int-pos, int-neg, neg-mul}
 use Rattle.algebra.proofs.Sum.{sum-cong, sum-scale}
 use Rattle.algebra.proofs.Order.{cancel-eq}
 use Rattle.algebra.proofs.Alternating.{signed-suc, signed-mul}
-use Rattle.algebra.proofs.Value.{order, ℚ, value, value-times, value-nat, value-over, value-zeroTo, product-zero, product-suc}
+use Rattle.algebra.proofs.Value.{order, ℚ, value, value-times, value-nat, value-over, value-zeroTo, value-product-zero, value-product-suc}
 use Rattle.model.specs.Limits.{unit}
 use Rattle.start.specs.Exponential.{factorial, factorial-pos, exponentialTerm, exponential}
-open Semiring ℚ using (carrier as A, 𝟘, 𝟙, _⊹_, _·_)
+open Semiring ℚ using (carrier as A, 𝟙, _·_)
 open Ring (order .ring) using (neg)
 
-infixl 6 _⊹_
 infixl 7 _·_
 -- ---- one over a factorial
 inverseOf : ℕ → A
@@ -56,12 +55,12 @@ module _ (z : ℤ) (s : ℕ) (h : 1 ≤ s) where
   term-value j = value-times (power x j) (over (pos 1) (factorial j) (factorial-pos j))
 
   term-zero : value (exponentialTerm (over z s h) 0) ≡ 𝟙
-  term-zero = term-value 0 ∙ ap₂ _·_ (product-zero (λ _. x)) inverse-zero ∙ ℚ .mul-one 𝟙
+  term-zero = term-value 0 ∙ ap₂ _·_ (value-product-zero (λ _. x)) inverse-zero ∙ ℚ .mul-one 𝟙
 
   term-suc : (j : ℕ) → nat ℚ (s * suc j) · value (exponentialTerm (over z s h) (suc j))
       ≡ int (order .ring) z · value (exponentialTerm (over z s h) j)
   term-suc j =
-      ap₂ _·_ (nat-mul ℚ s (suc j)) (term-value (suc j) ∙ ap (λ (v : A). v · inverseOf (suc j)) (product-suc j (λ _. x)))
+      ap₂ _·_ (nat-mul ℚ s (suc j)) (term-value (suc j) ∙ ap (λ (v : A). v · inverseOf (suc j)) (value-product-suc j (λ _. x)))
       ∙ moved ℚ (nat ℚ s) (nat ℚ (suc j)) (value (power x j)) (value x) (inverseOf (suc j))
       ∙ ap₂ _·_ (value-over z s h) (ap (λ (v : A). value (power x j) · v) (inverse-suc j) ∙ sym (term-value j))
 
@@ -94,12 +93,9 @@ module _ (q s : ℕ) (h : 1 ≤ s) where
 
   pub scaled-suc : (j : ℕ) → nat ℚ (s * suc j) · scaledTerm (suc j) ≡ nat ℚ q · scaledTerm j
   unfolding scaledTerm
-  scaled-suc j = turn ℚ (nat ℚ (s * suc j)) (nat ℚ unit) (plus (suc j))
+  scaled-suc j = mul-left-comm ℚ (nat ℚ (s * suc j)) (nat ℚ unit) (plus (suc j))
       ∙ ap (λ (v : A). nat ℚ unit · v) (term-suc (pos q) s h j ∙ ap (λ (v : A). v · plus j) (int-pos (order .ring) q))
-      ∙ turn ℚ (nat ℚ unit) (nat ℚ q) (plus j)
-    where
-      turn : (S : Semiring) (a b c : S .carrier) → S ._·_ a (S ._·_ b c) ≡ S ._·_ b (S ._·_ a c)
-      turn S a b c = simp ring
+      ∙ mul-left-comm ℚ (nat ℚ unit) (nat ℚ q) (plus j)
 
   -- U times a partial sum for -q/s
   pub exponential-value : (n : ℕ) → value (whole (pos unit) ⊗ exponential (over (negℤ (pos q)) s h) n)

@@ -2,16 +2,16 @@
 -- enclose; only its product with the divisor is spoken of, so that nothing is divided.
 use mathlib.Core.Path.{_≡_, refl, sym, _∙_, ap}
 use Prim.Native.Nat.{ℕ, _≤_}
-use lib.IntN.{ℤ, pos, _*ℤ_}
+use lib.IntN.{ℤ, pos, _*ℤ_, *ℤ-comm}
 use Rattle.algebra.specs.Semiring.{Semiring, nat}
 use Rattle.algebra.specs.Ring.{int}
 use Rattle.algebra.specs.Order.{OrderedRing}
-use Rattle.algebra.proofs.Ring.{int-pos, int-mul}
+use Rattle.algebra.proofs.Ring.{int-pos}
 use Rattle.algebra.proofs.Order.{rewritten, le-of-eq, mul-mono, nat-nonneg}
 use Rattle.algebra.proofs.Value.{order, ℚ, Within}
 use Rattle.model.specs.Limits.{unit}
 use Rattle.outward.specs.declared.Interval.{Interval}
-use Rattle.outward.proofs.Enclosed.{floor-le, le-ceil}
+use Rattle.outward.proofs.Enclosed.{times-natural, floor-le, le-ceil}
 use Rattle.start.specs.declared.scale.Factor.{Factor}
 use Rattle.start.specs.Step.{certain, times}
 open OrderedRing order using (_⊑_)
@@ -31,8 +31,7 @@ certain-held = record {
 
 module _ (factor : Factor) (d-pos : 1 ≤ factor .divisor) (ends : Interval) (x y : A) (h : Held ends x) where
   end-product : (z : ℤ) (n : ℕ) → nat ℚ n · int (order .ring) z ≡ int (order .ring) (z *ℤ pos n)
-  end-product z n = ap (λ (v : A). v · int (order .ring) z) (sym (int-pos (order .ring) n))
-      ∙ ℚ .mul-comm (int (order .ring) (pos n)) (int (order .ring) z) ∙ sym (int-mul (order .ring) z (pos n))
+  end-product z n = sym (ap (int (order .ring)) (*ℤ-comm z (pos n)) ∙ times-natural order n z)
 
   pub times-held : nat ℚ (factor .low) · x ⊑ nat ℚ (factor .divisor) · y → nat ℚ (factor .divisor) · y ⊑ nat ℚ (factor .high) · x
       → Held (times factor ends) y

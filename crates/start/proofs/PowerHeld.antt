@@ -9,7 +9,7 @@ use Rattle.algebra.specs.Fraction.{Fraction, over, whole, power}
 use Rattle.algebra.proofs.Semiring.{ring}
 use Rattle.algebra.proofs.Integer.{signed, split-add, split-neg}
 use Rattle.algebra.proofs.Ring.{int-pos}
-use Rattle.algebra.proofs.Value.{order, ℚ, value, value-times, value-nat, value-over, product-zero, product-suc, of-within}
+use Rattle.algebra.proofs.Value.{order, ℚ, value, value-times, value-nat, value-over, value-product-zero, value-product-suc, of-within}
 use Rattle.model.specs.Limits.{unit}
 use Rattle.start.specs.Step.{certain, exactly, repeated}
 use Rattle.start.specs.Call.{ofTrials}
@@ -33,10 +33,10 @@ module _ (r s : ℕ) (below : r < s) (h : 1 ≤ s) where
 
   power-held : (n : ℕ) → Held (repeated (exactly (s - r) s) n certain) (nat ℚ unit · value (power x n))
   unfolding repeated
-  power-held zero = rw (product-zero, ℚ .mul-one (nat ℚ unit)) certain-held
+  power-held zero = rw (value-product-zero, ℚ .mul-one (nat ℚ unit)) certain-held
   power-held (suc n) = times-held-exactly (exactly (s - r) s) h (repeated (exactly (s - r) s) n certain)
       (nat ℚ unit · value (power x n)) (nat ℚ unit · value (power x (suc n))) (power-held n) refl
-      (ap (λ (v : A). nat ℚ s · (nat ℚ unit · v)) (product-suc n (λ _. x))
+      (ap (λ (v : A). nat ℚ s · (nat ℚ unit · v)) (value-product-suc n (λ _. x))
       ∙ moved ℚ (nat ℚ s) (nat ℚ unit) (value (power x n)) (value x)
       ∙ ap (λ (v : A). v · (nat ℚ unit · value (power x n))) one-trial)
 
@@ -44,5 +44,8 @@ pub holds-power : HoldsPower
 unfolding ofTrials x
 holds-power r s N e h =
     let k = trials-accepted r s N e in
-    rw (k .is) (of-within _ _ (powerUnits r s N h)
-    (rw (value-times (whole (pos unit)) (power (over (pos s -ℤ pos r) s h) N), value-nat unit) (power-held r s (k .below) h N)))
+    rw (k .is) (of-within _ _ (powerUnits r s N h) (rw units (power-held r s (k .below) h N)))
+  where
+    units : value (powerUnits r s N h) ≡ nat ℚ unit · value (power (over (pos s -ℤ pos r) s h) N)
+    units = value-times (whole (pos unit)) (power (over (pos s -ℤ pos r) s h) N)
+        ∙ ap (λ (v : A). v · value (power (over (pos s -ℤ pos r) s h) N)) (value-nat unit)

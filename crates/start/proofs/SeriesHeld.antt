@@ -15,13 +15,13 @@ use Rattle.algebra.specs.Sum.{accumulate, sumℤ}
 use Rattle.algebra.specs.Alternating.{isEven, signedAt, alternating}
 use Rattle.algebra.specs.Fraction.{Fraction, over, whole, _⊕_, _⊗_, _≼_, zeroTo, product}
 use Rattle.algebra.specs.Solver.{var, null, _:+_, _:*_, :-_}
-use Rattle.algebra.proofs.Semiring.{ring, nat-zero}
+use Rattle.algebra.proofs.Semiring.{mul-left-comm, nat-zero}
 use Rattle.algebra.proofs.Ring.{int-pos, int-neg, int-add}
 use Rattle.algebra.proofs.Order.{rewritten, le-of-eq, add-mono, neg-mono, mul-mono, nat-nonneg, nat-mono, cancel-le}
 use Rattle.algebra.proofs.Sum.{sum-related}
 use Rattle.algebra.proofs.Solver.{solve}
-use Rattle.algebra.proofs.Alternating.{alternating-zero, alternating-suc, alternating-cong, alternating-add, alternating-bounds}
-use Rattle.algebra.proofs.Value.{order, ℚ, value, value-le, value-times, value-nat, product-zero, product-suc, of-within}
+use Rattle.algebra.proofs.Alternating.{alternating-one, alternating-cong, alternating-add, alternating-bounds}
+use Rattle.algebra.proofs.Value.{order, ℚ, value, value-le, value-times, value-nat, value-product-zero, value-product-suc, of-within}
 use Rattle.model.specs.Limits.{unit as U}
 use Rattle.outward.specs.declared.Interval.{Interval}
 use Rattle.start.specs.Step.{exactly, times, repeated}
@@ -32,7 +32,7 @@ use Rattle.start.proofs.Held.{Held, certain-held, times-held, times-hel
 use Rattle.start.proofs.Exponential.{scaledTerm, scaled-zero, scaled-suc, exponential-value}
 use Rattle.start.proofs.Accepted.{mean-accepted}
 open OrderedRing order using (_⊑_)
-open Semiring ℚ using (carrier as A, 𝟘, 𝟙, _⊹_, _·_)
+open Semiring ℚ using (carrier as A, 𝟘, _⊹_, _·_)
 open Ring (order .ring) using (neg)
 
 infix 4 _⊑_
@@ -85,13 +85,10 @@ module _ (q s : ℕ) (h : 1 ≤ s) (qs : q ≤ s) where
   further k = alternating-add (order .ring) 13 (suc k) b
 
   to-13 : alternate 14 b ≡ alternate 13 b ⊹ neg (b (13 + 0))
-  to-13 = further 0 ∙ ap (λ (v : A). alternate 13 b ⊹ neg v)
-      (alternating-suc (order .ring) 0 (λ i. b (13 + i))
-      ∙ ap (λ (v : A). b (13 + 0) ⊹ neg v) (alternating-zero (order .ring) (λ i. b (13 + suc i)))
-      ∙ solve (order .ring) (b (13 + 0) ∷ []) (var 0 :+ :- null) (var 0) tt)
+  to-13 = further 0 ∙ ap (λ (v : A). alternate 13 b ⊹ neg v) (alternating-one (order .ring) (λ i. b (13 + i)))
 
-  -- every partial sum to term 13 or further lies from that to term 13 to that to term 12, and is not below 0
-  pub sandwich : (n : ℕ) → 13 ≤ n → (alternate 14 b ⊑ alternate (suc n) b) × (alternate (suc n) b ⊑ alternate 13 b)
+  -- every partial sum to term 13 or further lies from that to term 13 to that to term 12
+  sandwich : (n : ℕ) → 13 ≤ n → (alternate 14 b ⊑ alternate (suc n) b) × (alternate (suc n) b ⊑ alternate 13 b)
   sandwich n l = rw here (
     rewritten order (add-mono order (order .le-refl first) (neg-mono order (bounds (n - 13) 13 .1))) (sym to-13) (sym (further (n - 13))),
     rewritten order (add-mono order (order .le-refl first) (neg-mono order (bounds (n - 13) 13 .0))) (sym (further (n - 13))) (plain first),
@@ -192,19 +189,16 @@ module _ (n : ℕ) (l : 13 ≤ n) where
   -- one step
   one-held : (ends : Interval) (x : A) → 𝟘 ⊑ x → Held ends x → Held (times expMinusOne ends) (x · one n)
   one-held ends x p k = times-held expMinusOne (lit≤ tt) ends x (x · one n) k
-      (rewritten order (mul-mono order x p one-low) (ℚ .mul-comm x (nat ℚ (expMinusOne .low))) (turn ℚ x (nat ℚ U) (one n)))
-      (rewritten order (mul-mono order x p one-high) (turn ℚ x (nat ℚ U) (one n)) (ℚ .mul-comm x (nat ℚ (expMinusOne .high))))
-    where
-      turn : (S : Semiring) (a b c : S .carrier) → S ._·_ a (S ._·_ b c) ≡ S ._·_ b (S ._·_ a c)
-      turn S a b c = simp ring
+      (rewritten order (mul-mono order x p one-low) (ℚ .mul-comm x (nat ℚ (expMinusOne .low))) (mul-left-comm ℚ x (nat ℚ U) (one n)))
+      (rewritten order (mul-mono order x p one-high) (mul-left-comm ℚ x (nat ℚ U) (one n)) (ℚ .mul-comm x (nat ℚ (expMinusOne .high))))
 
 -- ---- their product, which is not below 0 either
 module _ (ends : Interval) (x : A) (p : 𝟘 ⊑ x) (k : Held ends x) (ns : ℕ → ℕ) where
   next : (v : ℕ) → x · value (wholeProduct v ns) · one (ns v) ≡ x · value (wholeProduct (suc v) ns)
-  next v = ℚ .mul-assoc x (value (wholeProduct v ns)) (one (ns v)) ∙ ap (λ (w : A). x · w) (sym (product-suc v _))
+  next v = ℚ .mul-assoc x (value (wholeProduct v ns)) (one (ns v)) ∙ ap (λ (w : A). x · w) (sym (value-product-suc v _))
 
   none : x ≡ x · value (wholeProduct 0 ns)
-  none = sym (ap (λ (w : A). x · w) (product-zero _) ∙ ℚ .mul-one x)
+  none = sym (ap (λ (w : A). x · w) (value-product-zero _) ∙ ℚ .mul-one x)
 
   product-nonneg : (v : ℕ) → ((i : ℕ) → i < v → 13 ≤ ns i) → 𝟘 ⊑ x · value (wholeProduct v ns)
   product-nonneg zero l = rewritten order p refl none

@@ -1,4 +1,4 @@
--- Every number of the two calls fits 64 bits with a sign: products of numbers up to U, and sums of up to 13 of them.
+-- Every number of the two calls fits 64 bits with a sign: products of numbers up to U, and sums of up to 14 of them.
 use mathlib.Core.Path.{_≡_}
 use Prim.Native.Nat.{_≤_}
 use native.Mathlib.Omega.{arith}
@@ -13,8 +13,8 @@ use Rattle.algebra.proofs.Size.{size-add, size-sub, size-mul-le, size-fits}
 use Rattle.model.specs.Limits.{unit}
 use Rattle.outward.specs.declared.Interval.{Interval}
 use Rattle.start.specs.declared.scale.Factor.{Factor}
-use Rattle.start.specs.Step.{InUnit, Proper}
-use Rattle.start.specs.Room.{SumRoom}
+use Rattle.start.specs.Step.{InUnit}
+use Rattle.start.specs.Room.{Proper, SumRoom}
 
 -- numbers from 0 to U
 size-of : (z : ℤ) → pos 0 ≤ℤ z → z ≤ℤ pos unit → natAbs z ≤ unit
@@ -53,8 +53,6 @@ ends-of ends u =
 
 -- ---- a step's products
 pub record Products (factor : Factor) (ends : Interval) : Type 0 where
-  pub low-fits : SFits w64 (ends .low)
-  pub high-fits : SFits w64 (ends .high)
   pub factor-low : toZ w64 (factor .low) ≡ pos (factor .low)
   pub factor-high : toZ w64 (factor .high) ≡ pos (factor .high)
   pub low-product : SFits w64 (ends .low *ℤ pos (factor .low))
@@ -63,8 +61,6 @@ pub record Products (factor : Factor) (ends : Interval) : Type 0 where
 pub products : (factor : Factor) (ends : Interval) → Proper factor → InUnit ends → Products factor ends
 products factor ends proper u =
     let s = in-unit-sizes ends u in record {
-      low-fits = size-fits w64 _ (omega arith);
-      high-fits = size-fits w64 _ (omega arith);
       factor-low = toZ-pos w64 (omega arith);
       factor-high = toZ-pos w64 (omega arith);
       low-product = size-fits w64 _ (omega (arith, size-mul-le (ends .low) (pos (factor .low)) unit unit (s .low-size) (omega arith)));

@@ -1,5 +1,5 @@
--- One step on whole numbers from 0 to U: the result is from 0 to U again, its high is no larger, it is wider by at most one, and its high
--- is at least 1 where interval and factor allow it. Each follows from the quotients' bounds, as a statement over ℕ.
+-- One step on whole numbers from 0 to U: the result is from 0 to U again, its high is no larger, it is wider by at most one where the
+-- factor is one number, and its high stays at least 1 where the factor is not 0. Each follows from the quotients' bounds, over ℕ.
 use mathlib.Core.Path.{_≡_, refl}
 use Prim.Native.Nat.{ℕ, zero, suc, _+_, _*_, _-_, _/_, _≤_, _<_, zero-le}
 use native.Mathlib.Nat as NL
@@ -10,9 +10,10 @@ use Rattle.algebra.proofs.Integer.{pos-mono, of-pos}
 use Rattle.model.specs.Limits.{unit}
 use Rattle.outward.specs.declared.Interval.{Interval}
 use Rattle.outward.specs.Division.{floorDiv}
-use Rattle.outward.proofs.Division.{ceilℕ, ceil-pos, ceilℕ-is}
+use Rattle.outward.proofs.Division.{ceilℕ, ceil-pos, ceilℕ-is, same-ends}
 use Rattle.start.specs.declared.scale.Factor.{Factor}
-use Rattle.start.specs.Step.{times, repeated, InUnit, Proper}
+use Rattle.start.specs.Step.{times, repeated, InUnit}
+use Rattle.start.specs.Room.{Proper}
 
 -- ---- one step
 pub record Stepped (factor : Factor) (ends : Interval) : Type 0 where
@@ -95,7 +96,7 @@ module _ (factor : Factor) (proper : Proper factor) where
 
   pub times-pos : (x y : ℕ) → times factor (record { low = pos x; high = pos y }) ≡ record { low = pos (lower x); high = pos (upper y) }
   unfolding times floorDiv
-  times-pos x y = rw (ceil-pos (y * b) d)
+  times-pos x y = same-ends refl (ceil-pos (y * b) d)
 
   stepped-pos : (x y : ℕ) → x ≤ y → y ≤ unit → Stepped factor (record { low = pos x; high = pos y })
   stepped-pos x y xy yu =

@@ -18,7 +18,8 @@ use Rattle.algebra.proofs.Integer.{integers, integerOrder, signed, split-add, s
 use Rattle.model.specs.Limits.{unit}
 use Rattle.outward.specs.declared.Interval.{Interval}
 use Rattle.outward.proofs.Division.{ceilℕ, ceil-pos}
-use Rattle.start.specs.Step.{exactly, times, InUnit, Proper}
+use Rattle.start.specs.Step.{exactly, times, InUnit}
+use Rattle.start.specs.Room.{Proper}
 use Rattle.start.specs.Call.{term, lowPart, highPart, series}
 use Rattle.start.proofs.Step.{quotients, times-pos, lower, upper}
 use Rattle.start.proofs.Terms.{term-proper, term-in-unit, term-shrinks, term-width}

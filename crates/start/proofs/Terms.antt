@@ -14,9 +14,9 @@ use Rattle.algebra.proofs.Size.{size-neg, size-sum}
 use Rattle.algebra.proofs.Integer.{signed, split-add, pos-mono}
 use Rattle.model.specs.Limits.{unit}
 use Rattle.outward.specs.declared.Interval.{Interval}
-use Rattle.start.specs.Step.{certain, exactly, InUnit, Proper}
+use Rattle.start.specs.Step.{certain, exactly, InUnit}
 use Rattle.start.specs.Call.{term, lowPart, highPart}
-use Rattle.start.specs.Room.{plusPart, sumOfTerms, SumRoom}
+use Rattle.start.specs.Room.{Proper, plusPart, sumOfTerms, SumRoom}
 use Rattle.start.proofs.Step.{Stepped, stepped}
 use Rattle.start.proofs.Sizes.{in-unit-sizes}
 

@@ -70,21 +70,26 @@ expMinusOne = record { low = 367879441; high = 367879442; divisor = unit }
 unfoldable pub ofMean : (r s : ℕ) → Interval
 ofMean r s = repeated expMinusOne (r / s) (series (r % s) s)
 
--- ---- "For trials N, begin with U and U and multiply N times by (s-r)/s, rounding down and up"
+-- ---- "For trials N, begin with U and U and multiply N times by (s-r)/s, rounding down and up; a negative binomial of whole shape uses the
+-- same steps", with its shape for N and, for r/s, the p of source document 000, whose chance of no claims is (1-p)^N
 unfoldable pub ofTrials : (r s N : ℕ) → Interval
 ofTrials r s N = repeated (exactly (s - r) s) N certain
 
 -- ---- "It refuses with 41 an s outside 1 to 1,000 or a mean above 20, then 42 a chance of 1 or more, then 43 a number of trials outside 1
 -- to 1,000."
+abbrev pub wrongLower : ℕ → Bool
+wrongLower s = outside 1 1000 s
+
 abbrev pub wrongMean : (r s : ℕ) → Bool
-wrongMean r s = outside 1 1000 s || ltb (20 * s) r
+wrongMean r s = wrongLower s || ltb (20 * s) r
 
 abbrev pub meanChecks : (r s : ℕ) → List Condition
 meanChecks r s = condition (wrongMean r s) 41 0 ∷ []
 
+-- a chance is no mean: one above 20 is refused by 42
 abbrev pub trialsChecks : (r s N : ℕ) → List Condition
 trialsChecks r s N =
-    condition (outside 1 1000 s) 41 0
+    condition (wrongLower s) 41 0
     ∷ condition (leb s r) 42 0
     ∷ condition (outside 1 1000 N) 43 0
     ∷ []

@@ -1,5 +1,5 @@
 -- The one step of both calls: an interval of whole numbers times a fraction, rounded outward.
-use Prim.Native.Nat.{ℕ, zero, suc, _≤_}
+use Prim.Native.Nat.{ℕ, zero, suc}
 use lib.IntN.{pos, _*ℤ_}
 use lib.Signed.{_≤ℤ_}
 use Rattle.model.specs.Limits.{unit}
@@ -27,14 +27,8 @@ unfoldable pub repeated : Factor → ℕ → Interval → Interval
 repeated factor zero ends = ends
 repeated factor (suc n) ends = times factor (repeated factor n ends)
 
--- ---- what the code asks for, so that no product overflows: numbers from 0 to U, and a fraction of at most 1
+-- ---- numbers from 0 to U, which every step keeps
 pub record InUnit (ends : Interval) : Type 0 where
   pub nonneg : pos 0 ≤ℤ ends .low
   pub in-order : ends .low ≤ℤ ends .high
   pub at-most : ends .high ≤ℤ pos unit
-
-pub record Proper (factor : Factor) : Type 0 where
-  pub divisor-pos : 1 ≤ factor .divisor
-  pub divisor-most : factor .divisor ≤ unit
-  pub in-order : factor .low ≤ factor .high
-  pub at-most-one : factor .high ≤ factor .divisor

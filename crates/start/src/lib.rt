@@ -12,7 +12,7 @@ use scale::Factor;
 ghost use mathlib.Core.Path.{_≡_};
 ghost use Rattle.model.specs.Answer.{accepted};
 ghost use Rattle.start.specs.Step.{InUnit};
-ghost use Rattle.start.specs.Call.{numberOf, paper, started, wrongMean, startOfMean, startOfTrials};
+ghost use Rattle.start.specs.Call.{numberOf, paper, started, wrongLower, wrongMean, startOfMean, startOfTrials};
 
 // e to the -1 in units, rounded down and up.
 const EXP_MINUS_ONE_LOW: u64 = 367_879_441;
@@ -46,10 +46,16 @@ pub fn reason_number(reason: Reason) -> u64
     }
 }
 
+fn is_wrong_lower(lower: u64) -> bool
+    ensures { λ r. ⌜ r ≡ wrongLower lower ⌝ }
+{
+    is_outside(1, 1000, lower)
+}
+
 fn is_wrong_mean(upper: u64, lower: u64) -> bool
     ensures { λ r. ⌜ r ≡ wrongMean upper lower ⌝ }
 {
-    is_outside(1, 1000, lower) || 20 * lower < upper
+    is_wrong_lower(lower) || 20 * lower < upper
 }
 
 // The start from the low to the high of an interval.
@@ -79,11 +85,12 @@ pub fn mean(upper: u64, lower: u64) -> StartAnswer
     start_from(scale::repeated(exp_minus_one, upper / lower, rest))
 }
 
-// The start of a law of `trials` trials, each of chance `upper` over `lower`.
+// The start of a binomial law of `trials` trials, each of chance `upper` over `lower`. A negative binomial law of whole shape has the same,
+// with its shape for the trials.
 pub fn trials(upper: u64, lower: u64, trials: u64) -> StartAnswer
     ensures { λ r. ⌜ paper r ≡ startOfTrials upper lower trials ⌝ }
 {
-    if is_outside(1, 1000, lower) {
+    if is_wrong_lower(lower) {
         return StartAnswer::Refused(Reason::Fraction);
     }
     if lower <= upper {

@@ -3,7 +3,8 @@
 use model::limits::UNIT;
 use outward::Interval;
 ghost use mathlib.Core.Path.{_≡_};
-ghost use Rattle.start.specs.Step.{certain, times, repeated, InUnit, Proper};
+ghost use Rattle.start.specs.Step.{certain, times, repeated, InUnit};
+ghost use Rattle.start.specs.Room.{Proper};
 
 // A fraction that lies from `low` over `divisor` to `high` over `divisor`.
 pub struct Factor {

@@ -2,30 +2,24 @@
 use borrow.Author.Needs.{needs}
 use mathlib.Core.Path.{_≡_, refl, sym, _∙_, ap}
 use mathlib.Core.List.{List}
-use Rattle.model.specs.Answer.{Answer, Condition, accepted, firstOf}
+use Rattle.model.specs.Answer.{Condition, accepted}
 use Rattle.model.proofs.Answer.{Due, due-first, due-refuses, due-accepts}
 use Rattle.start.specs.Step.{repeated}
-use Rattle.start.specs.Call.{meanChecks, expMinusOne, started, ofMean, startOfMean}
+use Rattle.start.specs.Call.{meanChecks, expMinusOne, started, ofMean}
 use Rattle.start.proofs.Step.{repeated-in-unit}
-use Rattle.start.proofs.Accepted.{Rest, rest-of, rest-in-unit, exp-proper}
+use Rattle.start.proofs.Accepted.{mean-is, Rest, rest-of, rest-in-unit, exp-proper}
 use Rattle.start.proofs.mean.Statement.{statement}
 use Rattle.start.proofs.mean.Tie as tie
 
 abbrev conditions : tie.Start → List Condition
 conditions c = meanChecks (c .args .upper) (c .args .lower)
 
--- the start follows from the answer
-answers : (c : tie.Start) {answer : Answer} → firstOf (conditions c) ≡ answer
-    → started answer (ofMean (c .args .upper) (c .args .lower)) ≡ startOfMean (c .args .upper) (c .args .lower)
-unfolding startOfMean
-answers c e = sym (ap (λ (a : Answer). started a (ofMean (c .args .upper) (c .args .lower))) e)
-
 -- 41
 fraction-due : (c : tie.After-is-wrong-mean) → Due (conditions (c .before)) 0 (c .is-wrong-mean .result)
 fraction-due c = due-first (c .is-wrong-mean .ensures)
 
 returns : tie.Need-returns
-returns c = answers (c .before .before) (due-refuses (fraction-due (c .before)) (c .if1 .taken))
+returns c = sym (mean-is _ _ (due-refuses (fraction-due (c .before)) (c .if1 .taken)))
 
 rest : (c : tie.Else1) → Rest (c .before .before .args .upper) (c .before .before .args .lower)
 rest c = rest-of _ _ (sym (c .before .is-wrong-mean .ensures) ∙ c .if1 .left)
@@ -44,7 +38,7 @@ returns-2 : tie.Need-returns-2
 returns-2 c =
     let e = c .before .before .before in
     c .start-from .ensures ∙ ap (started accepted) (product-is (c .before))
-    ∙ answers (e .before .before) (due-accepts refl (fraction-due (e .before)) (e .if1 .left))
+    ∙ sym (mean-is _ _ (due-accepts refl (fraction-due (e .before)) (e .if1 .left)))
 
 pub mean-spec : {M : Type 1} → statement M
 mean-spec =

@@ -6,50 +6,44 @@ use mathlib.Core.Path.{_≡_, refl, sym, _∙_, ap}
 use mathlib.Core.List.{List}
 use Prim.Native.Nat.{_-_}
 use lib.Dec.{leb, lit<}
-use Rattle.model.specs.Answer.{Answer, Condition, accepted, firstOf}
+use Rattle.model.specs.Answer.{Condition, accepted}
 use Rattle.model.proofs.Answer.{Due, due-first, due-next, due-refuses, due-accepts}
-use Rattle.start.specs.Step.{certain, exactly, repeated, Proper}
-use Rattle.start.specs.Call.{trialsChecks, started, ofTrials, startOfTrials}
+use Rattle.start.specs.Step.{certain, exactly, repeated}
+use Rattle.start.specs.Room.{Proper}
+use Rattle.start.specs.Call.{trialsChecks, started, ofTrials}
 use Rattle.start.proofs.Step.{repeated-in-unit}
 use Rattle.start.proofs.Terms.{certain-in-unit}
-use Rattle.start.proofs.Accepted.{none-proper}
+use Rattle.start.proofs.Accepted.{trials-is, no-claim-proper}
 use Rattle.start.proofs.trials.Statement.{statement}
 use Rattle.start.proofs.trials.Tie as tie
 
 abbrev conditions : tie.Start → List Condition
 conditions c = trialsChecks (c .args .upper) (c .args .lower) (c .args .trials)
 
--- the start follows from the answer
-answers : (c : tie.Start) {answer : Answer} → firstOf (conditions c) ≡ answer
-    → started answer (ofTrials (c .args .upper) (c .args .lower) (c .args .trials))
-    ≡ startOfTrials (c .args .upper) (c .args .lower) (c .args .trials)
-unfolding startOfTrials
-answers c e = sym (ap (λ (a : Answer). started a (ofTrials (c .args .upper) (c .args .lower) (c .args .trials))) e)
-
 -- 41, the lower number
-lower-due : (c : tie.After-is-outside) → Due (conditions (c .before)) 0 (c .is-outside .result)
-lower-due c = due-first (c .is-outside .ensures)
+lower-due : (c : tie.After-is-wrong-lower) → Due (conditions (c .before)) 0 (c .is-wrong-lower .result)
+lower-due c = due-first (c .is-wrong-lower .ensures)
 
 returns : tie.Need-returns
-returns c = answers (c .before .before) (due-refuses (lower-due (c .before)) (c .if1 .taken))
+returns c = sym (trials-is _ _ _ (due-refuses (lower-due (c .before)) (c .if1 .taken)))
 
 -- 42, the chance
 chance-due : (c : tie.Else1) → let a = c .before .before .args in Due (conditions (c .before .before)) 1 (leb (a .lower) (a .upper))
 chance-due c = due-next (lower-due (c .before)) (c .if1 .left) refl
 
 returns-2 : tie.Need-returns-2
-returns-2 c = answers (c .before .before .before) (due-refuses (chance-due (c .before)) (le-leb _ _ (c .if2 .taken)))
+returns-2 c = sym (trials-is _ _ _ (due-refuses (chance-due (c .before)) (le-leb _ _ (c .if2 .taken))))
 
 -- 43, the number of trials
-trials-due : (c : tie.After-is-outside2) → Due (conditions (c .before .before .before .before)) 2 (c .is-outside2 .result)
-trials-due c = due-next (chance-due (c .before .before)) (lt-leb _ _ (c .before .if2 .left)) (c .is-outside2 .ensures)
+trials-due : (c : tie.After-is-outside) → Due (conditions (c .before .before .before .before)) 2 (c .is-outside .result)
+trials-due c = due-next (chance-due (c .before .before)) (lt-leb _ _ (c .before .if2 .left)) (c .is-outside .ensures)
 
 returns-3 : tie.Need-returns-3
-returns-3 c = answers (c .before .before .before .before .before) (due-refuses (trials-due (c .before)) (c .if3 .taken))
+returns-3 c = sym (trials-is _ _ _ (due-refuses (trials-due (c .before)) (c .if3 .taken)))
 
 -- and where no condition holds, the start
 proper : (c : tie.Else3) → let a = c .before .before .before .before .before .args in Proper (exactly (a .lower - a .upper) (a .lower))
-proper c = none-proper _ _ (trials-due (c .before) .earlier 0 (lit< tt)) (c .before .before .if2 .left)
+proper c = no-claim-proper _ _ (trials-due (c .before) .earlier 0 (lit< tt)) (c .before .before .if2 .left)
 
 power-is : (c : tie.After-repeated) → let a = c .before .before .before .before .before .before .before .args in
     c .repeated .result ≡ ofTrials (a .upper) (a .lower) (a .trials)
@@ -64,7 +58,7 @@ returns-4 : tie.Need-returns-4
 returns-4 c =
     let e = c .before .before .before in
     c .start-from .ensures ∙ ap (started accepted) (power-is (c .before))
-    ∙ answers (e .before .before .before .before .before) (due-accepts refl (trials-due (e .before)) (e .if3 .left))
+    ∙ sym (trials-is _ _ _ (due-accepts refl (trials-due (e .before)) (e .if3 .left)))
 
 pub trials-spec : {M : Type 1} → statement M
 trials-spec =

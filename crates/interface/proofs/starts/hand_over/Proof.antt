@@ -3,7 +3,7 @@ use borrow.Author.Needs.{needs}
 use mathlib.Core.Path.{sym, ap, _∙_}
 use Prim.Native.Nat.{ℕ}
 use Rattle.start.specs.Call.{paper}
-use Rattle.interface.specs.Handed.{returned, ends}
+use Rattle.interface.specs.Handed.{returned, tellsStart}
 use Rattle.interface.proofs.starts.hand_over.Statement.{statement}
 use Rattle.interface.proofs.starts.hand_over.Tie as tie
 
@@ -11,7 +11,7 @@ returns : tie.Need-returns
 returns c = ap paper (sym (c .before .answer .given .1))
 
 returns-2 : tie.Need-returns-2
-returns-2 c = ap (λ (number : ℕ). ends (returned number 0) 0 0) (c .reason-number .ensures)
+returns-2 c = ap (λ (number : ℕ). tellsStart (returned number 0) 0 0) (c .reason-number .ensures)
     ∙ ap paper (sym (c .before .before .answer2 .given .1))
 
 pub hand-over-spec : {M : Type 1} → statement M
