@@ -1,6 +1,6 @@
 """Sets the calls in crates/cases/specs/Cases.antt beside outward.py, sheet.py, level.py, start.py and program.py, and the lows and highs
-of curves beside the exact amounts of exact.py. Every row must be read, and agree. Short names are read as the file defines them, with parameters or
-without; words that it takes from elsewhere are in WORDS. Another file of this form can be given as an argument."""
+of curves beside the exact amounts of exact.py. Every row must be read, and agree. Short names are read as the file defines them, with
+parameters or without; words that it takes from elsewhere are in WORDS. Another file of this form can be given as an argument."""
 import operator
 import pathlib
 import re

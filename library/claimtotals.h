@@ -1,7 +1,8 @@
 /* Claim totals with proved bounds: the calls for C.
 
    The chance of each yearly claim total, as a low and a high with a bound on the gap between them, all in units of a billionth: U, which
-   is 1,000,000,000 units, stands for chance 1. README.md says what the numbers of a job mean, docs/CLAIMS.md what is claimed of the answers.
+   is 1,000,000,000 units, stands for chance 1. README.md says what the numbers of a job mean, docs/CLAIMS.md what is claimed of the
+   answers.
 
    Every call takes numbers of any content and rows of any length. claimtotals_faulty_word and claimtotals_version refuse nothing. Each
    other call answers with a number: 0 for an acceptance, else that of the refusal, the first in the order of the lists below that holds.
@@ -45,8 +46,8 @@ uint64_t claimtotals_start_mean(uint64_t upper, uint64_t lower, uint64_t *low, u
 
 /* The start of a binomial law, or of a negative binomial law of whole shape: U times (1 - r/s)^N lies from low to high.
 
-   upper, lower  r and s: of a binomial law the chance r/s of a claim in one trial; of a negative binomial law the chance r/s with which
-                 (1 - r/s)^N is its chance of no claims, and not the one that some texts write p where this has 1 - p
+   upper, lower  r and s. For a binomial law r/s is the chance of a claim in one trial. For a negative binomial law it is the p with which
+                 the chance of no claims is (1-p)^N; some texts write p for 1-p
    trials        N, the number of trials, or the shape
    low, high     as with claimtotals_start_mean
 

@@ -23,7 +23,8 @@ accepted-sums-fit job weights lent ok x h = sums-fit job weights (limits job wei
     (λ z l. no-fault job weights lent ok z (omega arith))
 
 pub encloses : Encloses
-encloses job weights lent ok h x l p s t = subst (λ e. Between (e .low) (e .high) (amount job weights h p x)) (sym (shows job weights lent ok x l))
+encloses job weights lent ok h x l p s t = subst (λ e. Between (e .low) (e .high) (amount job weights h p x))
+    (sym (shows job weights lent ok x l))
     (amount-enclosed job weights h p (s, t) (limits job weights lent ok .law .order-least) x)
 
 pub gap-within-bound : GapWithinBound

@@ -1,4 +1,4 @@
--- Demand 3 for a job whose start is what a call of `start` gave: what the buyer reads, who knows the law by its name.
+-- Demand 3 for a job whose start is what a call of `start` gave: the exact amounts with the very number that the start stands for.
 use mathlib.Core.Path.{_≡_}
 use mathlib.Core.Bool.{false}
 use mathlib.Core.List.{List}

@@ -24,7 +24,8 @@ pub mean-is : (r s : ℕ) {answer : Answer} → firstOf (meanChecks r s) ≡ ans
 unfolding startOfMean
 mean-is r s e = ap (λ (a : Answer). started a (ofMean r s)) e
 
-pub trials-is : (r s N : ℕ) {answer : Answer} → firstOf (trialsChecks r s N) ≡ answer → startOfTrials r s N ≡ started answer (ofTrials r s N)
+pub trials-is : (r s N : ℕ) {answer : Answer} → firstOf (trialsChecks r s N) ≡ answer
+    → startOfTrials r s N ≡ started answer (ofTrials r s N)
 unfolding startOfTrials
 trials-is r s N e = ap (λ (a : Answer). started a (ofTrials r s N)) e
 

@@ -38,7 +38,8 @@ module _ (factor : Factor) (d-pos : 1 ≤ factor .divisor) (ends : Interval) (x 
   unfolding times
   times-held least most = record {
     below = floor-le order (ends .low *ℤ pos (factor .low)) (factor .divisor) d-pos (order .le-trans
-        (rewritten order (mul-mono order _ (nat-nonneg order (factor .low)) (h .below)) (end-product (ends .low) (factor .low)) refl) least);
+        (rewritten order (mul-mono order _ (nat-nonneg order (factor .low)) (h .below)) (end-product (ends .low) (factor .low)) refl)
+        least);
     above = le-ceil order (ends .high *ℤ pos (factor .high)) (factor .divisor) d-pos (order .le-trans most
         (rewritten order (mul-mono order _ (nat-nonneg order (factor .high)) (h .above)) refl (end-product (ends .high) (factor .high))));
   }

@@ -225,4 +225,5 @@ holds-series r s e h n ns l each =
     units = value-times (whole (pos U)) (restSum r s h n ⊗ wholeProduct (r / s) ns)
         ∙ ap (λ (v : A). value (whole (pos U)) · v) (value-times (restSum r s h n) (wholeProduct (r / s) ns))
         ∙ sym (ℚ .mul-assoc (value (whole (pos U))) (value (restSum r s h n)) (value (wholeProduct (r / s) ns)))
-        ∙ ap (λ (v : A). v · value (wholeProduct (r / s) ns)) (sym (value-times (whole (pos U)) (restSum r s h n)) ∙ exponential-value (r % s) s h n)
+        ∙ ap (λ (v : A). v · value (wholeProduct (r / s) ns))
+        (sym (value-times (whole (pos U)) (restSum r s h n)) ∙ exponential-value (r % s) s h n)

@@ -7,7 +7,9 @@ use Rattle.start.proofs.is_wrong_mean.Statement.{statement}
 use Rattle.start.proofs.is_wrong_mean.Tie as tie
 
 mul-result : tie.Need-mul-result
-mul-result c = let w = within 1 1000 (c .before .before .args .lower) (sym (c .before .is-wrong-lower .ensures) ∙ c .if1 .left) in search needs
+mul-result c =
+    let w = within 1 1000 (c .before .before .args .lower) (sym (c .before .is-wrong-lower .ensures) ∙ c .if1 .left) in
+    search needs
 
 returns : tie.Need-returns
 returns c = let e = c .before .is-wrong-lower .ensures in e ∙ or-yes _ _ (sym e ∙ c .if1 .taken)
