@@ -45,7 +45,8 @@ class Fraction(NamedTuple):
 
 
 def fraction(text: str) -> Fraction:
-    """A decimal is taken exactly, and nothing is reduced: the call judges. 18 digits always fit it. 1,250 could be a thousand or a decimal."""
+    """A decimal is taken exactly, and nothing is reduced: the call judges. 18 digits always fit it. The comma of 1,250 could part
+    thousands."""
     if re.fullmatch("[1-9][0-9]{0,2},[0-9]{3}", text):
         raise argparse.ArgumentTypeError(f"{text}: write {text.replace(',', '.')} or {text.replace(',', '')}, as the comma could be either")
     found = re.fullmatch("([0-9]{1,18})(?:/([0-9]{1,18}))?", text)
