@@ -41,14 +41,14 @@ extern "C" {
    0    accepted
    41   the lower number of the fraction is not 1 to 1,000, or a mean is above 20
 
-   After a refusal low and high are 0. Each step is rounded outward, so that a start may be some units wider than need be; README.md says how
-   wide it gets. */
+   After a refusal low and high are 0. Each step is rounded outward, so that a start may be wider than need be; README.md says how wide it
+   gets. */
 uint64_t claimtotals_start_mean(uint64_t upper, uint64_t lower, uint64_t *low, uint64_t *high);
 
 /* The start of a binomial law, or of a negative binomial law of whole shape: U times (1 - r/s)^N lies from low to high.
 
-   upper, lower  r and s. For a binomial law r/s is the chance of a claim in one trial. For a negative binomial law it is the p with which
-                 the chance of no claims is (1-p)^N; some texts write p for 1-p
+   upper, lower  r and s. For a binomial law r/s is the chance of a claim in one trial. For a negative binomial law it is the q with which
+                 the chance of no claims is (1-q)^N; Panjer and Willmot call it p, where other texts write p for 1-q
    trials        N, the number of trials, or the shape
    low, high     as with claimtotals_start_mean
 

@@ -64,9 +64,11 @@ class Law(NamedTuple):
         return f"start --mean {fraction}" if self.trials is None else f"start --chance {fraction} --trials {self.trials}"
 
     def way(self):
-        """The starts from chance 1 on, each the one before times the same factors, for low and for high, over the same divisor. A mean is
-        whole here."""
+        """The starts from chance 1 on, each the one before times the same factors, for low and for high, over the same divisor. That of a
+        rest has another way."""
         if self.trials is None:
+            if self.upper % self.lower:
+                raise ValueError(f"{self} has a rest")
             return [Law(mean, 1).start() for mean in range(self.upper // self.lower + 1)], Law(1, 1).start(), UNIT
         starts = [tuple(WHOLE), *(self._replace(trials=count + 1).start() for count in range(self.trials))]
         return starts, (self.lower - self.upper,) * 2, self.lower

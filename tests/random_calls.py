@@ -14,6 +14,7 @@ from outward import Job, Lent, curve
 from random_sheets import near
 from sheet import read_sheet
 from start import start_of_mean, start_of_trials
+from started import outside_mean, outside_trials
 
 LEAST, MOST = -2 ** 63, 2 ** 63 - 1
 HUGE = (2 ** 31, 2 ** 32, 2 ** 32 + 1, 2 ** 63 - 1, 2 ** 63, 2 ** 64 - 1)
@@ -304,21 +305,25 @@ def random_trials(r):
     return r.choice((1, few, few, few, many, many, many, *near(MOST_TRIALS), 0, r.choice(HUGE)))
 
 
-def start_call(r, name, start_of, given):
+def start_call(r, name, start_of, outside, given):
+    """The calculator itself is held to exact fractions."""
     said = start_of(*given.values())
+    if not said.number:
+        for fault in outside(said, *given.values()):
+            raise ValueError(f"the calculator's start of {given}: {fault}")
     ends = [(end, number_row(r, UNSIGNED, getattr(said, end))) for end in ("low", "high")]
     return Call(name, [*given.items(), *ends], said.number, said.number)
 
 
 def mean_call(r):
     lower = random_lower(r)
-    return start_call(r, "claimtotals_start_mean", start_of_mean, {"upper": random_mean(r, lower), "lower": lower})
+    return start_call(r, "claimtotals_start_mean", start_of_mean, outside_mean, {"upper": random_mean(r, lower), "lower": lower})
 
 
 def trials_call(r):
     lower = random_lower(r)
     given = {"upper": random_chance(r, lower), "lower": lower, "trials": random_trials(r)}
-    return start_call(r, "claimtotals_start_trials", start_of_trials, given)
+    return start_call(r, "claimtotals_start_trials", start_of_trials, outside_trials, given)
 
 
 def call(r):

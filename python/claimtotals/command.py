@@ -35,8 +35,8 @@ def remark(path: str, sentence: Optional[str]) -> None:
 
 # ---- start
 
-class Fraction(NamedTuple):
-    """As the calls take it."""
+class Ratio(NamedTuple):
+    """A fraction as the calls take it."""
     upper: int
     lower: int
 
@@ -44,23 +44,23 @@ class Fraction(NamedTuple):
         return f"{self.upper}/{self.lower}"
 
 
-def fraction(text: str) -> Fraction:
+def fraction(text: str) -> Ratio:
     """A decimal is taken exactly, and nothing is reduced: the call judges. 18 digits always fit it. The comma of 1,250 could part
     thousands."""
     if re.fullmatch("[1-9][0-9]{0,2},[0-9]{3}", text):
         raise argparse.ArgumentTypeError(f"{text}: write {text.replace(',', '.')} or {text.replace(',', '')}, as the comma could be either")
     found = re.fullmatch("([0-9]{1,18})(?:/([0-9]{1,18}))?", text)
     if found:
-        return Fraction(int(found[1]), int(found[2] or 1))
+        return Ratio(int(found[1]), int(found[2] or 1))
     found = re.fullmatch("([0-9]+)[.,]([0-9]+)", text)
     if not found or len(found[1] + found[2]) > 18:
         raise argparse.ArgumentTypeError(f"{text!r:.60} is no fraction: write 37/10, 3.7 or 4, with at most 18 digits in a number")
-    return Fraction(int(found[1] + found[2]), 10 ** len(found[2]))
+    return Ratio(int(found[1] + found[2]), 10 ** len(found[2]))
 
 
 def count(text: str) -> int:
     if not re.fullmatch("[0-9]{1,18}", text):
-        raise argparse.ArgumentTypeError(f"{text!r:.60} is no whole number of at most 18 digits")
+        raise argparse.ArgumentTypeError(f"{text!r:.60} is no whole number of at most 18 digits: write 1000 for 1,000")
     return int(text)
 
 
@@ -168,7 +168,7 @@ def add_start(commands: argparse._SubParsersAction) -> None:
         "may be wider than need be, most of all with many trials of a small chance.\n"
         "\n"
         "A negative binomial law of whole shape takes its shape for the trials, and for the chance the q with which its chance of no\n"
-        "claims is (1-q)^shape. Texts that write p for 1-q differ: give 1-p.",
+        "claims is (1-q)^shape, which Panjer and Willmot call p. Texts that write p for 1-q differ: give 1-p.",
         "--mean 37/10", "--chance 1/20 --trials 30")
     laws = parser.add_mutually_exclusive_group(required=True)
     laws.add_argument("--mean", metavar="R/S", type=fraction, help="as 37/10, 4 or 3.7, which is 37/10; at most 20")

@@ -2,6 +2,8 @@
 from __future__ import annotations
 
 from ctypes import byref
+from decimal import Decimal
+from fractions import Fraction
 from typing import Callable, NamedTuple
 
 from claimtotals import library
@@ -25,8 +27,8 @@ class Start(NamedTuple):
 
 def part(name: str, number: int) -> int:
     """A number of a fraction. A float is none, as few of them are the decimals that they are written as."""
-    if isinstance(number, float):
-        raise ValueError(f"{name}: {number!r} is no whole number; a fraction is given as two, 3.7 as 37 and 10")
+    if isinstance(number, (float, Decimal, Fraction)):
+        raise ValueError(f"{name}: {number!r} is not taken; a fraction is given as two whole numbers, 3.7 as 37 and 10")
     return whole(name, number)
 
 

@@ -125,10 +125,6 @@ class Trials(unittest.TestCase):
                 self.assertLessEqual(high - low, trials)
                 self.assertLess(high - low, Fraction(2 * lower, upper))
 
-    def test_wide(self):
-        """Many trials of a small chance: 1000 times 970/971."""
-        self.assertEqual(start_of_trials(1, 971, 1000), (356865008, 356865649))
-
 
 class Refusals(unittest.TestCase):
     """By number; there is no place. The first fault is told."""
@@ -168,7 +164,8 @@ class Refusals(unittest.TestCase):
 
     def test_float(self):
         """It is said how a decimal is given."""
-        for call in (lambda: start_of_mean(3.7)), (lambda: start_of_trials(1, 20.0, 30)):
+        for call in ((lambda: start_of_mean(3.7)), (lambda: start_of_trials(1, 20.0, 30)), (lambda: start_of_mean(Fraction(37, 10))),
+                     (lambda: start_of_mean(Decimal("3.7"))), (lambda: start_of_trials(Fraction(1, 20), 1, 30))):
             with self.assertRaises(ValueError) as caught:
                 call()
             self.assertIn("3.7 as 37 and 10", str(caught.exception))

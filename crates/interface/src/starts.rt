@@ -1,7 +1,6 @@
 // The start from the law's own name.
 
 use start::StartAnswer;
-use start::mean;
 use start::reason_number;
 ghost use mathlib.Core.Path.{_≡_};
 ghost use Rattle.start.specs.Call.{paper, startOfMean, startOfTrials};
@@ -31,7 +30,7 @@ pub extern "C" fn claimtotals_start_mean(
 ) -> u64
     ensures { λ r. ⌜ tellsStart (returned r 0) (now (low .exit)) (now (high .exit)) ≡ startOfMean upper lower ⌝ }
 {
-    hand_over(mean(upper, lower), low, high)
+    hand_over(start::mean(upper, lower), low, high)
 }
 
 #[no_mangle]

@@ -76,7 +76,7 @@ pub fn mean(upper: u64, lower: u64) -> StartAnswer
     if is_wrong_mean(upper, lower) {
         return StartAnswer::Refused(Reason::Fraction);
     }
-    let rest = series::rest(upper % lower, lower);
+    let rest = series::partial_sums(upper % lower, lower);
     let exp_minus_one = Factor {
         low: EXP_MINUS_ONE_LOW,
         high: EXP_MINUS_ONE_HIGH,

@@ -41,8 +41,8 @@ fn add_part(index: u64, term: Interval, sum: Interval) -> Interval
     }
 }
 
-// The terms 0 to 12, summed, and from the low term 13 taken off.
-pub fn rest(upper: u64, lower: u64) -> Interval
+// From the low of the sum to term 13 to the high of the sum to term 12.
+pub fn partial_sums(upper: u64, lower: u64) -> Interval
     requires { ⌜ (upper < lower) × (lower ≤ 1000) ⌝ }
     ensures { λ r. ⌜ r ≡ series upper lower ⌝ }
 {

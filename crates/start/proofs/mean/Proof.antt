@@ -28,7 +28,7 @@ rest c = rest-of _ _ (sym (c .before .is-wrong-mean .ensures) ∙ c .if1 .left)
 product-is : (c : tie.After-repeated) → let a = c .before .before .before .before .args in
     c .repeated .result ≡ ofMean (a .upper) (a .lower)
 unfolding ofMean
-product-is c = c .repeated .ensures ∙ ap (repeated _ _) (c .before .rest .ensures)
+product-is c = c .repeated .ensures ∙ ap (repeated _ _) (c .before .partial-sums .ensures)
 
 start-from-requires : tie.Need-start-from-requires
 unfolding ofMean
@@ -50,6 +50,6 @@ mean-spec =
     (λ c κs. (rest c .below, rest c .lower-most))
     (λ c. search needs)
     (λ c. rest (c .before) .lower-pos)
-    (λ c κs. (exp-proper, rw (c .rest .ensures) (rest-in-unit _ _ (rest (c .before)))))
+    (λ c κs. (exp-proper, rw (c .partial-sums .ensures) (rest-in-unit _ _ (rest (c .before)))))
     start-from-requires
     returns-2)

@@ -13,8 +13,8 @@ use Rattle.start.specs.Call.{term, series}
 use Rattle.start.specs.Room.{sumOfTerms}
 use Rattle.start.proofs.Sizes.{Parts, parts}
 use Rattle.start.proofs.Terms.{term-in-unit, sum-room, plus-part}
-use Rattle.start.proofs.series.rest.Statement.{statement}
-use Rattle.start.proofs.series.rest.Tie as tie
+use Rattle.start.proofs.series.partial_sums.Statement.{statement}
+use Rattle.start.proofs.series.partial_sums.Tie as tie
 
 abbrev Inv-loop : tie.InvT-loop
 Inv-loop upper lower term₀ sum₀ j₀ last sum j = (j ≤ 13) × (last ≡ term upper lower j) × (sum ≡ sumOfTerms upper lower j)
@@ -77,8 +77,8 @@ returns c =
     rw (toZ-ofZ (k .sum-low), toZ-ofZ (k .term-high), toZ-ofZ (k .low-high), toZ-ofZ (k .sum-high))
     (same-ends (ap₂ (λ (s t : Interval). s .low -ℤ t .high) sum last) (ap (λ (s : Interval). s .high) sum))
 
-pub rest-spec : {M : Type 1} → statement M
-rest-spec =
+pub partial-sums-spec : {M : Type 1} → statement M
+partial-sums-spec =
     tie.close
     (tie.spec
     Inv-loop
