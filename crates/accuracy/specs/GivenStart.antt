@@ -17,13 +17,13 @@ use Rattle.accuracy.specs.Accuracy.{Accepted, shown}
 abbrev pub EnclosedFor : (job : Job) (weights : List ℕ) → Lent → Divisible job weights → ℕ → Fraction → Type 0
 EnclosedFor job weights lent d x p = Between (shown job weights lent x .low) (shown job weights lent x .high) (amount job weights d p x)
 
--- the start is that of N trials: so it is with the exact power
+-- a job with the start of N trials: for the exact power its exact amounts lie from low to high
 abbrev pub EnclosesPower : Type 0
 EnclosesPower = (job : Job) (weights : List ℕ) (lent : Lent) → Accepted job weights lent
     → (r s N : ℕ) → startOfTrials r s N ≡ given (job .start) → (h : 1 ≤ s)
     → (d : Divisible job weights) (x : ℕ) → x ≤ job .last → EnclosedFor job weights lent d x (powerUnits r s N h)
 
--- the start is that of a mean: so it is with every product of partial sums, each taken to term 13 or further
+-- a job with the start of a mean: so they do for every product of partial sums, each taken to term 13 or further
 abbrev pub EnclosesSeries : Type 0
 EnclosesSeries = (job : Job) (weights : List ℕ) (lent : Lent) → Accepted job weights lent
     → (r s : ℕ) → startOfMean r s ≡ given (job .start) → (h : 1 ≤ s)

@@ -1,4 +1,4 @@
--- What is promised of the two calls: which numbers the start that they give holds, in units, and that the curve takes it.
+-- What is promised of the two calls: which numbers the start that they give holds, in units, and that it passes the curve's check 4.
 use mathlib.Core.Path.{_≡_}
 use Prim.Native.Nat.{ℕ, _/_, _%_, _≤_, _<_}
 use lib.IntN.{pos, negℤ, _-ℤ_}

@@ -52,6 +52,7 @@ pub fn partial_sums(upper: u64, lower: u64) -> Interval
         sum = add_part(j, term, sum);
         term = next_term(upper, lower, j + 1, term);
     }
+    // term 13 belongs to the low alone
     Interval {
         low: sum.low - term.high,
         high: sum.high,
