@@ -168,7 +168,7 @@ def add_start(commands: argparse._SubParsersAction) -> None:
         "may be wider than need be, most of all with many trials of a small chance.\n"
         "\n"
         "A negative binomial law of whole shape takes its shape for the trials, and for the chance the q with which its chance of no\n"
-        "claims is (1-q)^shape, which Panjer and Willmot call p. Texts that write p for 1-q differ: give 1-p.",
+        "claims is (1-q)^shape; Panjer and Willmot write p for it. Texts that write p for 1-q differ: give 1-p.",
         "--mean 37/10", "--chance 1/20 --trials 30")
     laws = parser.add_mutually_exclusive_group(required=True)
     laws.add_argument("--mean", metavar="R/S", type=fraction, help="as 37/10, 4 or 3.7, which is 37/10; at most 20")
