@@ -9,9 +9,9 @@ use Rattle.algebra.specs.Order.{OrderedRing}
 use Rattle.algebra.specs.Ring.{int}
 use Rattle.algebra.specs.Semiring.{Semiring, nat}
 use Rattle.algebra.proofs.Integer.{signed}
-use Rattle.algebra.proofs.Ring.{int-add, int-mul}
-use Rattle.algebra.proofs.Order.{add-mono, mul-mono, mul-turn, int-mono}
-use Rattle.algebra.proofs.Value.{order, ℚ, Within, within-value, of-within}
+use Rattle.algebra.proofs.Ring.{int-mul}
+use Rattle.algebra.proofs.Order.{mul-mono, mul-turn, int-mono}
+use Rattle.algebra.proofs.Value.{order, ℚ, Within, within-value, of-within, within-zero, within-add}
 use Rattle.model.specs.declared.Job.{Job}
 use Rattle.exact.specs.Frequency.{Frequency}
 use Rattle.exact.specs.Severity.{Severity}
@@ -21,7 +21,7 @@ use Rattle.exact.proofs.Recursion.{recursion-value, convolution-value, first-va
 use Rattle.exact.specs.JobAmount.{Divisible, frequency, severity, amount}
 use Rattle.outward.proofs.Enclosed.{floor-le, le-ceil}
 use Rattle.enclosure.specs.declared.Entry.{Entry}
-use Rattle.enclosure.specs.Entry.{none, plus, scaled, rounded}
+use Rattle.enclosure.specs.Entry.{scaled, rounded}
 use Rattle.rows.specs.Curve.{factor, firstEntry, curveRows}
 use Rattle.rows.proofs.Preserved.{Preserved, Follows, divisors-pos, all-preserved}
 open OrderedRing order using (_⊑_)
@@ -37,16 +37,6 @@ integer = int (order .ring)
 -- v lies from the low to the high of e
 abbrev Inside : Entry → A → Type 0
 Inside e v = Within (e .low) (e .high) v
-
-within-none : Inside none 𝟘
-unfolding int nat
-within-none = record { below = order .le-refl 𝟘; above = order .le-refl 𝟘 }
-
-within-plus : (e f : Entry) (u v : A) → Inside e u → Inside f v → Inside (plus e f) (u ⊹ v)
-within-plus e f u v p q = record {
-  below = rw int-add (add-mono order (p .below) (q .below));
-  above = rw int-add (add-mono order (p .above) (q .above));
-}
 
 -- ---- a factor, which turns the ends where it is negative
 nonneg : (n : ℕ) → 𝟘 ⊑ integer (pos n)
@@ -82,8 +72,8 @@ enclosing = record {
   add = _⊹_;
   times = λ z v. integer z · v;
   Divided = λ d s v. nat ℚ d · v ≡ s;
-  by-none = within-none;
-  by-plus = within-plus;
+  by-none = within-zero;
+  by-plus = λ e f u v. within-add;
   by-scaled = within-scaled;
   by-rounded = within-rounded;
 }
@@ -99,7 +89,7 @@ module _ (job : Job) (weights : List ℕ) (h : Divisible job weights) (p : Fract
 
   first-within : (j : ℕ) → Inside (firstEntry (job .start) j) (valueRow law table p j 0)
   first-within zero = rw first-value (within-value _ _ p start)
-  first-within (suc j) = rw first-further within-none
+  first-within (suc j) = rw first-further within-zero
 
   exact-follows : Follows enclosing job weights (valueRow law table p)
   unfolding factor wholeFactor int

@@ -4,7 +4,7 @@ use mathlib.Core.Path.{_≡_, refl, sym, _∙_, ap, ap₂}
 use Prim.Native.Nat.{ℕ, zero, suc, _+_, _≤_}
 use native.Mathlib.Nat as NL
 use native.Mathlib.Omega.{arith}
-use lib.IntN.{ℤ, pos, negsuc, _+ℤ_}
+use lib.IntN.{ℤ, pos, negsuc, negℤ, _+ℤ_}
 use lib.Signed.{_≤ℤ_}
 use Rattle.algebra.specs.Semiring.{Semiring, nat}
 use Rattle.algebra.specs.Ring.{int}
@@ -12,9 +12,9 @@ use Rattle.algebra.specs.Order.{OrderedRing}
 use Rattle.algebra.specs.Sum.{accumulate, sum, sumℤ}
 use Rattle.algebra.specs.Fraction.{Fraction, over, whole, _⊕_, _⊗_, overSuc, _≈_, _≼_, Between, oneTo, zeroTo, product}
 use Rattle.algebra.proofs.Semiring.{ring, ring-units, nat-zero, nat-suc}
-use Rattle.algebra.proofs.Ring.{neg-unique}
+use Rattle.algebra.proofs.Ring.{int-add, int-neg, neg-unique}
 use Rattle.algebra.proofs.Integer.{integers, signed, split-add, *ℤ-mono, *ℤ-cancel-le}
-use Rattle.algebra.proofs.Order.{rewritten, sum-mono}
+use Rattle.algebra.proofs.Order.{rewritten, add-mono, neg-mono, sum-mono}
 use Rattle.algebra.proofs.Sum.{sum-related}
 use Rattle.algebra.proofs.Rational.{rationals}
 
@@ -165,6 +165,20 @@ within-value low high x (l, h) = record { below = rw (← value-int) (value-le l
 
 pub of-within : (low high : ℤ) (x : Fraction) → Within low high (value x) → Between low high x
 of-within low high x w = (le-of-value (rw value-int (w .below)), le-of-value (rw value-int (w .above)))
+
+-- sums and negatives of such numbers
+pub within-zero : Within (pos 0) (pos 0) 𝟘
+unfolding int nat
+within-zero = record { below = order .le-refl 𝟘; above = order .le-refl 𝟘 }
+
+pub within-add : {a b c d : ℤ} {u v : A} → Within a b u → Within c d v → Within (a +ℤ c) (b +ℤ d) (u ⊹ v)
+within-add p q = record {
+  below = rw int-add (add-mono order (p .below) (q .below));
+  above = rw int-add (add-mono order (p .above) (q .above));
+}
+
+pub within-neg : {a b : ℤ} {u : A} → Within a b u → Within (negℤ b) (negℤ a) (order .ring .neg u)
+within-neg p = record { below = rw int-neg (neg-mono order (p .above)); above = rw int-neg (neg-mono order (p .below)) }
 
 -- amounts in order, sums in order
 pub zeroTo-mono : (n : ℕ) (f g : ℕ → Fraction) → ((i : ℕ) → i ≤ n → f i ≼ g i) → zeroTo n f ≼ zeroTo n g

@@ -7,26 +7,26 @@ use Prim.Native.Nat.{ℕ, zero, suc, _+_, _*_, _-_, _/_, _%_, _≤_, _<_}
 use native.Mathlib.Nat as NL
 use native.Mathlib.Omega.{arith}
 use lib.Dec.{lit≤}
-use lib.IntN.{ℤ, pos, negℤ, _+ℤ_}
+use lib.IntN.{pos, negℤ}
 use Rattle.algebra.specs.Semiring.{Semiring, nat}
-use Rattle.algebra.specs.Ring.{Ring, int}
+use Rattle.algebra.specs.Ring.{Ring}
 use Rattle.algebra.specs.Order.{OrderedRing}
-use Rattle.algebra.specs.Sum.{accumulate, sumℤ}
-use Rattle.algebra.specs.Alternating.{isEven, signedAt, alternating}
+use Rattle.algebra.specs.Sum.{accumulate}
+use Rattle.algebra.specs.Alternating.{isEven, alternating}
 use Rattle.algebra.specs.Fraction.{Fraction, over, whole, _⊕_, _⊗_, _≼_, zeroTo, product}
 use Rattle.algebra.specs.Solver.{var, null, _:+_, _:*_, :-_}
-use Rattle.algebra.proofs.Semiring.{mul-left-comm, nat-zero}
-use Rattle.algebra.proofs.Ring.{int-pos, int-neg, int-add}
-use Rattle.algebra.proofs.Order.{rewritten, le-of-eq, add-mono, neg-mono, mul-mono, nat-nonneg, nat-mono, cancel-le}
-use Rattle.algebra.proofs.Sum.{sum-related}
+use Rattle.algebra.proofs.Semiring.{mul-left-comm}
+use Rattle.algebra.proofs.Order.{rewritten, add-mono, neg-mono, mul-mono, nat-nonneg, nat-mono, cancel-le}
 use Rattle.algebra.proofs.Solver.{solve}
 use Rattle.algebra.proofs.Alternating.{alternating-one, alternating-cong, alternating-add, alternating-bounds}
-use Rattle.algebra.proofs.Value.{order, ℚ, value, value-le, value-times, value-nat, value-product-zero, value-product-suc, of-within}
+use Rattle.algebra.proofs.Value.{order, ℚ, value, value-le, value-times, value-nat, value-product-zero, value-product-suc}
+use Rattle.algebra.proofs.Value.{Within, of-within, within-zero, within-add, within-neg}
 use Rattle.model.specs.Limits.{unit as U}
 use Rattle.outward.specs.declared.Interval.{Interval}
 use Rattle.start.specs.Step.{exactly, times, repeated}
-use Rattle.start.specs.Call.{term, lowPart, highPart, series, expMinusOne, ofMean}
+use Rattle.start.specs.Call.{term, series, expMinusOne, ofMean}
 use Rattle.start.specs.Exponential.{factorial, exponentialTerm, exponential}
+use Rattle.start.specs.Room.{sumOfTerms}
 use Rattle.start.specs.Holds.{restSum, wholeProduct, seriesUnits, HoldsSeries}
 use Rattle.start.proofs.Held.{Held, certain-held, times-held, times-held-exactly}
 use Rattle.start.proofs.Exponential.{scaledTerm, scaled-zero, scaled-suc, exponential-value}
@@ -41,9 +41,6 @@ infixl 7 _·_
 -- the first n numbers of a, with alternating signs
 abbrev alternate : ℕ → (ℕ → A) → A
 alternate = alternating (order .ring)
-
-abbrev integer : ℤ → A
-integer = int (order .ring)
 
 -- ---- the exact terms of a rest q/s of at most 1, times U
 module _ (q s : ℕ) (h : 1 ≤ s) (qs : q ≤ s) where
@@ -113,41 +110,23 @@ module _ (q s : ℕ) (h : 1 ≤ s) (qs : q ≤ s) where
   term-held (suc j) = times-held-exactly (exactly q (s * suc j)) (d-pos j) (term q s j) (b j) (b (suc j)) (term-held j) refl
       (scaled-suc q s h j)
 
-  low-held : (n : ℕ) → integer (sumℤ n (lowPart q s)) ⊑ alternate n b
-  unfolding alternating
-  low-held n = sum-related (λ (z : ℤ) (v : A). integer z ⊑ v) (pos 0) _+ℤ_ 𝟘 _⊹_ none plus n (lowPart q s)
-      (λ j. signedAt (order .ring) j (b j)) (λ j l. part j (isEven j))
+  sum-held : (n : ℕ) → Held (sumOfTerms q s n) (alternate n b)
+  unfolding alternating sumOfTerms accumulate
+  sum-held zero = within-zero
+  sum-held (suc n) = within-add (sum-held n) (part (isEven n))
     where
-      none : integer (pos 0) ⊑ 𝟘
-      none = le-of-eq order (int-pos (order .ring) 0 ∙ nat-zero ℚ)
+      t : Interval
+      t = term q s n
 
-      plus : (x y : ℤ) (u v : A) → integer x ⊑ u → integer y ⊑ v → integer (x +ℤ y) ⊑ u ⊹ v
-      plus x y u v p r = rewritten order (add-mono order p r) (sym (int-add (order .ring) x y)) refl
-
-      part : (j : ℕ) (e : Bool) → integer (cond e (term q s j .low) (negℤ (term q s j .high))) ⊑ cond e (b j) (neg (b j))
-      part j true = term-held j .below
-      part j false = rewritten order (neg-mono order (term-held j .above)) (sym (int-neg (order .ring) (term q s j .high))) refl
-
-  high-held : (n : ℕ) → alternate n b ⊑ integer (sumℤ n (highPart q s))
-  unfolding alternating
-  high-held n = sum-related (λ (v : A) (z : ℤ). v ⊑ integer z) 𝟘 _⊹_ (pos 0) _+ℤ_ none plus n
-      (λ j. signedAt (order .ring) j (b j)) (highPart q s) (λ j l. part j (isEven j))
-    where
-      none : 𝟘 ⊑ integer (pos 0)
-      none = le-of-eq order (sym (int-pos (order .ring) 0 ∙ nat-zero ℚ))
-
-      plus : (u v : A) (x y : ℤ) → u ⊑ integer x → v ⊑ integer y → u ⊹ v ⊑ integer (x +ℤ y)
-      plus u v x y p r = rewritten order (add-mono order p r) refl (sym (int-add (order .ring) x y))
-
-      part : (j : ℕ) (e : Bool) → cond e (b j) (neg (b j)) ⊑ integer (cond e (term q s j .high) (negℤ (term q s j .low)))
-      part j true = term-held j .above
-      part j false = rewritten order (neg-mono order (term-held j .below)) refl (sym (int-neg (order .ring) (term q s j .low)))
+      part : (e : Bool) → Within (cond e (t .low) (negℤ (t .high))) (cond e (t .high) (negℤ (t .low))) (cond e (b n) (neg (b n)))
+      part true = term-held n
+      part false = within-neg (term-held n)
 
   series-held : (n : ℕ) → 13 ≤ n → Held (series q s) (alternate (suc n) b)
-  unfolding series
+  unfolding series sumOfTerms
   series-held n l = record {
-    below = order .le-trans (low-held 14) (sandwich n l .0);
-    above = order .le-trans (sandwich n l .1) (high-held 13);
+    below = order .le-trans (sum-held 14 .below) (sandwich n l .0);
+    above = order .le-trans (sandwich n l .1) (sum-held 13 .above);
   }
 
 -- ---- the constants, by comparing fractions
