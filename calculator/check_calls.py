@@ -1,18 +1,22 @@
 """The calls that the program crates/calls makes, and what the calculator says to each. Checks that the calculator gives the answer that the
 case asks for, that the exact amounts of an accepted curve lie within its lows and highs and the exact chance of no claims within its start,
-and that the program's files stdin and stdout hold just these calls and the calculator's answers; with --write it writes the files first."""
+that the law made from a customer's line follows this line, and that the program's files stdin and stdout hold just these calls and the
+calculator's answers; with --write it writes the files first."""
 import pathlib
 import sys
 from typing import NamedTuple
 
 import cases_curve
 import cases_level
+import cases_published
 import cases_reader
 import cases_start
 from enclosed import outside
+from followed import another_law, off_hesselager, off_panjer_willmot
 from level import level_query
 from limits import LAST_TOTAL
 from outward import Lent, curve
+from published import law_hesselager, law_panjer_willmot
 from sheet import read_sheet
 from start import start_of_mean, start_of_trials
 from started import outside_mean, outside_trials
@@ -116,6 +120,27 @@ def trials_call(case):
     return start_call(case, 5, start_of_trials, outside_trials)
 
 
+def law_faults(case, said, off):
+    yield from differences((case.number, case.divisor, case.a, case.b), said)
+    if said.number == 0:
+        yield from off(said, *case.given)
+        if case.known:
+            yield from another_law(said, case.known)
+
+
+def law_call(case, kind, law_of, off):
+    said = law_of(*case.given)
+    return Call(case.name, words(kind, *case.given), line(said), list(law_faults(case, said, off)))
+
+
+def panjer_willmot_call(case):
+    return law_call(case, 6, law_panjer_willmot, off_panjer_willmot)
+
+
+def hesselager_call(case):
+    return law_call(case, 7, law_hesselager, off_hesselager)
+
+
 def stored(name):
     path = FOLDER / name
     return path.read_bytes() if path.exists() else b""
@@ -125,7 +150,8 @@ def main():
     if sys.argv[1:] not in ([], ["--write"]):
         sys.exit(f"usage: {sys.argv[0]} [--write]")
     calls = [*map(reader_call, cases_reader.CASES), *map(curve_call, cases_curve.CASES), *map(level_call, cases_level.CASES),
-             *map(mean_call, cases_start.MEANS), *map(trials_call, cases_start.TRIALS)]
+             *map(mean_call, cases_start.MEANS), *map(trials_call, cases_start.TRIALS),
+             *map(panjer_willmot_call, cases_published.PANJER_WILLMOT), *map(hesselager_call, cases_published.HESSELAGER)]
     records = b"".join(call.record for call in calls)
     if sys.argv[1:]:
         (FOLDER / "stdin").write_bytes(records)
@@ -140,7 +166,8 @@ def main():
     if len(lines) != len(calls):
         faults.append(f"stdout has {len(lines)} lines for {len(calls)} calls")
     kinds = (f"{len(cases_reader.CASES)} sheets, {len(cases_curve.CASES)} curves, {len(cases_level.CASES)} level queries, "
-             f"{len(cases_start.MEANS) + len(cases_start.TRIALS)} starts")
+             f"{len(cases_start.MEANS) + len(cases_start.TRIALS)} starts, "
+             f"{len(cases_published.PANJER_WILLMOT) + len(cases_published.HESSELAGER)} laws")
     print(*faults, f"calls: {kinds} set beside the calculator, {len(faults)} faults", sep="\n")
     if faults:
         sys.exit(1)
