@@ -114,6 +114,24 @@ static void call_start_trials(void) {
     give_rows(rows, sizeof rows / sizeof *rows);
 }
 
+static void call_law_panjer_willmot(void) {
+    int64_t alpha_0 = (int64_t)number(), alpha_1 = (int64_t)number(), beta_0 = (int64_t)number(), beta_1 = (int64_t)number();
+    struct row divisor = take_row(8), a = take_row(8), b = take_row(8);
+    uint64_t answer = claimtotals_law_panjer_willmot(alpha_0, alpha_1, beta_0, beta_1, divisor.block, a.block, b.block);
+    give(&answer, sizeof answer);
+    struct row rows[] = {divisor, a, b};
+    give_rows(rows, sizeof rows / sizeof *rows);
+}
+
+static void call_law_hesselager(void) {
+    int64_t b_0 = (int64_t)number(), b_1 = (int64_t)number(), a_0 = (int64_t)number(), a_1 = (int64_t)number();
+    struct row divisor = take_row(8), a = take_row(8), b = take_row(8);
+    uint64_t answer = claimtotals_law_hesselager(b_0, b_1, a_0, a_1, divisor.block, a.block, b.block);
+    give(&answer, sizeof answer);
+    struct row rows[] = {divisor, a, b};
+    give_rows(rows, sizeof rows / sizeof *rows);
+}
+
 int main(void) {
     for (int which; (which = getchar()) != EOF;) {
         switch (which) {
@@ -123,6 +141,8 @@ int main(void) {
         case 'q': call_quantile(); break;
         case 'm': call_start_mean(); break;
         case 't': call_start_trials(); break;
+        case 'p': call_law_panjer_willmot(); break;
+        case 'h': call_law_hesselager(); break;
         default: fprintf(stderr, "no call has the letter %d\n", which); return 2;
         }
         /* at once, so that it can be told which call was the last when Valgrind ends the run */

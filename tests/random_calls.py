@@ -7,10 +7,12 @@ from itertools import accumulate
 from typing import NamedTuple
 
 import random_sheets
+from followed import off_hesselager, off_panjer_willmot
 from level import level_query
 from limits import (LAST_TOTAL, MOST_DIVISOR, MOST_END, MOST_LOWER, MOST_MEAN, MOST_ORDER, MOST_SUM, MOST_TERM, MOST_TOTALS, MOST_TRIALS,
                     MOST_WEIGHTS, UNIT, WORK_COLUMNS)
 from outward import Job, Lent, curve
+from published import law_hesselager, law_panjer_willmot
 from random_sheets import near
 from sheet import read_sheet
 from start import start_of_mean, start_of_trials
@@ -326,8 +328,59 @@ def trials_call(r):
     return start_call(r, "claimtotals_start_trials", start_of_trials, outside_trials, given)
 
 
+# ---- a publication's line for a law
+
+def of_either_sign(r, *sizes):
+    return [r.choice((size, -size)) for size in sizes]
+
+
+def great(r):
+    """Far outside the limits. 32 bits would take some for good ones, and 64 bits do not hold LEAST with its sign turned."""
+    return r.choice((LEAST, *of_either_sign(r, 2 ** 31, 2 ** 32, 2 ** 32 + 1, MOST), r.randint(LEAST, MOST)))
+
+
+def random_constant(r):
+    """On the left. Mostly 0."""
+    return r.choice((0, 0, 0, 0, 0, 0, 0, 0, 0, 1, -1, great(r)))
+
+
+def random_coefficient(r, most):
+    """D or a term, before signs are turned."""
+    small, good = r.randint(1, 9), r.randint(1, most)
+    return r.choice((0, 0, great(r), *of_either_sign(r, small, small, small, good, good, good, *near(most))))
+
+
+def in_signed_64_bits(number):
+    """What 64 bits, the first of them for the sign, make of a number that they do not hold."""
+    return in_64_bits(number - LEAST) + LEAST
+
+
+def law_call(r, name, law_of, off, given):
+    """The calculator itself is held to exact fractions."""
+    said = law_of(*given.values())
+    if not said.number:
+        for fault in off(said, *given.values()):
+            raise ValueError(f"the calculator's law of {given}: {fault}")
+    law = [("divisor", number_row(r, UNSIGNED, said.divisor)), ("a", number_row(r, SIGNED, said.a)), ("b", number_row(r, SIGNED, said.b))]
+    return Call(name, [*given.items(), *law], said.number, said.number)
+
+
+def panjer_willmot_call(r):
+    """beta_0 is chosen by its difference to beta_1, which now and then 64 bits do not hold."""
+    a, b = random_coefficient(r, MOST_TERM), random_coefficient(r, MOST_TERM)
+    given = {"alpha_0": random_constant(r), "alpha_1": random_coefficient(r, MOST_DIVISOR), "beta_0": in_signed_64_bits(a + b), "beta_1": a}
+    return law_call(r, "claimtotals_law_panjer_willmot", law_panjer_willmot, off_panjer_willmot, given)
+
+
+def hesselager_call(r):
+    given = {"b_0": random_constant(r), "b_1": random_coefficient(r, MOST_DIVISOR), "a_0": random_coefficient(r, MOST_TERM),
+             "a_1": random_coefficient(r, MOST_TERM)}
+    return law_call(r, "claimtotals_law_hesselager", law_hesselager, off_hesselager, given)
+
+
 def call(r):
-    kinds = {curve_call: 40, reader_call: 20, word_call: 15, level_call: 25, mean_call: 4, trials_call: 6}
+    kinds = {curve_call: 40, reader_call: 20, word_call: 15, level_call: 25, mean_call: 4, trials_call: 6, panjer_willmot_call: 4,
+             hesselager_call: 4}
     return r.choices(list(kinds), list(kinds.values()))[0](r)
 
 
@@ -344,4 +397,6 @@ CAN_ARISE = {
     "claimtotals_quantile": [0, 31, 32, 33, 34],
     "claimtotals_start_mean": [0, 41],
     "claimtotals_start_trials": [0, 41, 42, 43],
+    "claimtotals_law_panjer_willmot": [0, 51, 52, 53],
+    "claimtotals_law_hesselager": [0, 51, 52, 53],
 }
