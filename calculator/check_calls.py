@@ -129,8 +129,10 @@ def law_faults(case, said, off):
 
 
 def law_call(case, kind, law_of, off):
+    """The law that is made has order 1, and no further terms."""
     said = law_of(*case.given)
-    return Call(case.name, words(kind, *case.given), line(said), list(law_faults(case, said, off)))
+    law = [int(said.number == 0), said.divisor, said.a, 0, 0, 0, said.b, 0, 0, 0]
+    return Call(case.name, words(kind, *case.given), line([said.number], law), list(law_faults(case, said, off)))
 
 
 def panjer_willmot_call(case):

@@ -23,8 +23,8 @@ extern "C" {
 #endif
 
 /* The version of this header, as a number, major * 10,000 + minor * 100 + patch, and as text. */
-#define CLAIMTOTALS_VERSION 200
-#define CLAIMTOTALS_VERSION_TEXT "0.2.0"
+#define CLAIMTOTALS_VERSION 300
+#define CLAIMTOTALS_VERSION_TEXT "0.3.0"
 
 #define CLAIMTOTALS_UNIT INT64_C(1000000000)
 
@@ -59,6 +59,42 @@ uint64_t claimtotals_start_mean(uint64_t upper, uint64_t lower, uint64_t *low, u
 
    After a refusal low and high are 0. A chance is no mean: one above 20 is refused by 42. */
 uint64_t claimtotals_start_trials(uint64_t upper, uint64_t lower, uint64_t trials, uint64_t *low, uint64_t *high);
+
+/* The law of a line as Panjer and Willmot write it (source 000 of docs/CLAIMS.md), for every n from 1 on:
+
+       (alpha_0 + alpha_1 n) p_n = (beta_0 + beta_1 (n-1)) p_(n-1)
+
+   alpha_0, alpha_1, beta_0, beta_1
+                 the line's own numbers, whole; where it has fractions, all four times their common denominator
+   divisor, a, b
+                 the law, which is of order 1: D, A_1 and B_1, as claimtotals_curve takes them. D is alpha_1, A_1 is beta_1 and B_1 is
+                 beta_0 - beta_1, all signs turned where alpha_1 is negative. Nothing is reduced
+
+   0    accepted
+   51   the constant on the left of the line is not 0
+   52   the coefficient of n on the left of the line is 0
+   53   the divisor D is not 1 to 1,000, or a term, A or B, is not from -1,000 to 1,000
+
+   After a refusal all three are 0. */
+uint64_t claimtotals_law_panjer_willmot(int64_t alpha_0, int64_t alpha_1, int64_t beta_0, int64_t beta_1, uint64_t *divisor, int64_t *a,
+                                        int64_t *b);
+
+/* The same of a line as Hesselager writes it (source 001):
+
+       (b_0 + b_1 n) p_n = (a_0 + a_1 n) p_(n-1)
+
+   b_0, b_1, a_0, a_1
+                 the line's own numbers: mind the order, which is the line's, left and then right
+   divisor, a, b
+                 as with claimtotals_law_panjer_willmot. D is b_1, A_1 is a_1 and B_1 is a_0
+
+   0    accepted
+   51   the constant on the left of the line is not 0
+   52   the coefficient of n on the left of the line is 0
+   53   the divisor D is not 1 to 1,000, or a term, A or B, is not from -1,000 to 1,000
+
+   After a refusal all three are 0. */
+uint64_t claimtotals_law_hesselager(int64_t b_0, int64_t b_1, int64_t a_0, int64_t a_1, uint64_t *divisor, int64_t *a, int64_t *b);
 
 /* The curve of a job: low, high and bound of each total from 0 to X.
 

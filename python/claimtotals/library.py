@@ -32,6 +32,12 @@ def row_types(kind: type) -> tuple:
 CALLS = {
     "claimtotals_start_mean": (c_uint64, [c_uint64, c_uint64, POINTER(c_uint64), POINTER(c_uint64)]),
     "claimtotals_start_trials": (c_uint64, [c_uint64, c_uint64, c_uint64, POINTER(c_uint64), POINTER(c_uint64)]),
+    "claimtotals_law_panjer_willmot": (c_uint64, [
+        c_int64, c_int64, c_int64, c_int64, POINTER(c_uint64), POINTER(c_int64), POINTER(c_int64),
+    ]),
+    "claimtotals_law_hesselager": (c_uint64, [
+        c_int64, c_int64, c_int64, c_int64, POINTER(c_uint64), POINTER(c_int64), POINTER(c_int64),
+    ]),
     "claimtotals_curve": (c_uint64, [
         c_uint64, c_uint64, POINTER(c_int64), POINTER(c_int64), c_uint64, c_uint64, c_uint64, *row_types(c_uint64), *row_types(c_int64),
         *row_types(c_int64), *row_types(c_int64), *row_types(c_int64), POINTER(c_size_t),
@@ -83,6 +89,6 @@ def calls() -> ctypes.CDLL:
 
 
 def version() -> str:
-    """That of the library: 0.2.0."""
+    """That of the library: 0.3.0."""
     number = calls().claimtotals_version()
     return f"{number // 10_000}.{number // 100 % 100}.{number % 100}"

@@ -19,3 +19,8 @@ or-yes false q e = cc
 pub or-no : (p q : Bool) → p ≡ false → q ≡ (p || q)
 or-no true q e = cc
 or-no false q e = refl
+
+-- where the second holds, the whole does
+pub or-second : (p q : Bool) → q ≡ true → (p || q) ≡ true
+or-second true q e = refl
+or-second false q e = e

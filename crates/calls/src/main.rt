@@ -3,6 +3,7 @@
 
 mod curve;
 mod input;
+mod laws;
 mod level;
 mod reader;
 mod show;
@@ -16,6 +17,8 @@ fn next_call() -> bool {
         3 => level::run(),
         4 => starts::run_mean(),
         5 => starts::run_trials(),
+        6 => laws::run_panjer_willmot(),
+        7 => laws::run_hesselager(),
         _ => return false,
     }
     true

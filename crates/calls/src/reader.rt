@@ -5,7 +5,6 @@
 use crate::input;
 use crate::show;
 use model::Job;
-use model::Law;
 use model::Start;
 use sheet::LineAnswer;
 use sheet::SheetRead;
@@ -25,22 +24,6 @@ fn show_answer(answer: LineAnswer) {
     }
 }
 
-fn show_terms(terms: [i64; 4]) {
-    show::next_signed(terms[0]);
-    show::next_signed(terms[1]);
-    show::next_signed(terms[2]);
-    show::next_signed(terms[3]);
-}
-
-fn show_law(law: Law) {
-    show::next(law.order);
-    show::next(law.divisor);
-    let a = law.a;
-    show_terms(a);
-    let b = law.b;
-    show_terms(b);
-}
-
 fn show_start(start: Start) {
     show::next(start.low);
     show::next(start.high);
@@ -48,7 +31,7 @@ fn show_start(start: Start) {
 
 fn show_job(job: Job) {
     let law = job.law;
-    show_law(law);
+    show::law(law);
     let start = job.start;
     show_start(start);
     show::next(job.last);

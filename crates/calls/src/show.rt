@@ -1,5 +1,6 @@
 // Writing to standard output.
 
+use model::Law;
 use output::size;
 
 pub fn text(bytes: &[u8]) {
@@ -31,6 +32,23 @@ pub fn next_signed(z: i64) {
 pub fn answer(reason: u64, place: usize) {
     number(reason);
     next(place as u64);
+}
+
+fn terms(row: [i64; 4]) {
+    next_signed(row[0]);
+    next_signed(row[1]);
+    next_signed(row[2]);
+    next_signed(row[3]);
+}
+
+// k, D, A_1 to A_4 and B_1 to B_4.
+pub fn law(numbers: Law) {
+    next(numbers.order);
+    next(numbers.divisor);
+    let a = numbers.a;
+    terms(a);
+    let b = numbers.b;
+    terms(b);
 }
 
 // A place of a row, in front of what it holds.

@@ -2,13 +2,14 @@
 use mathlib.Core.List.{List}
 use Prim.Native.Nat.{ℕ}
 use lib.IntN.{ℤ, pos}
-use lib.ListN.{take}
+use lib.ListN.{take, getD}
 use Rattle.model.specs.declared.Job.{Job}
 use Rattle.model.specs.Job.{lawOf, startOf, jobOf}
 use Rattle.model.specs.Answer.{Answer}
 use Rattle.quantile.specs.Call.{Quantiles}
 use Rattle.sheet.specs.Call.{Told}
 use Rattle.start.specs.Call.{Started}
+use Rattle.published.specs.Call.{Made}
 
 -- a call returns the number of its answer, 0 for an acceptance, and the place goes into a lent number
 abbrev pub returned : ℕ → ℕ → Answer
@@ -29,3 +30,17 @@ totals answer sure possible = record { answer = answer; sure = sure; possible = 
 -- what the calls for a start tell
 abbrev pub tellsStart : Answer → ℕ → ℕ → Started
 tellsStart answer low high = record { answer = answer; ends = record { low = pos low; high = pos high } }
+
+-- what the calls for a law tell: D, A_1 and B_1
+pub record FirstOrder : Type 0 where
+  pub answer : Answer
+  pub divisor : ℕ
+  pub a : ℤ
+  pub b : ℤ
+
+abbrev pub tellsLaw : Answer → ℕ → ℤ → ℤ → FirstOrder
+tellsLaw answer divisor a b = record { answer = answer; divisor = divisor; a = a; b = b }
+
+-- the rest of the law is not handed over: its order is 1, and its further terms are 0
+abbrev pub firstOrder : Made → FirstOrder
+firstOrder made = tellsLaw (made .answer) (made .law .divisor) (getD (made .law .a) 0 (pos 0)) (getD (made .law .b) 0 (pos 0))

@@ -2,6 +2,7 @@
 // answer over number by number; library/claimtotals.h says what each parameter is.
 
 pub mod curve;
+pub mod laws;
 pub mod level;
 pub mod reader;
 pub mod starts;

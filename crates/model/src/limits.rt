@@ -29,7 +29,7 @@ pub fn is_outside(least: u64, most: u64, n: u64) -> bool
 }
 
 // Whether `z` lies outside -`limit` to `limit`.
-fn is_beyond(limit: i64, z: i64) -> bool
+pub fn is_beyond(limit: i64, z: i64) -> bool
     requires { ⌜ pos 0 ≤ℤ limit ⌝ }
     ensures { λ r. ⌜ r ≡ beyond (natAbs limit) z ⌝ }
 {

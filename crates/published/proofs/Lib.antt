@@ -1,0 +1,2 @@
+-- Bottom up: what an acceptance says (`Accepted`).
+pub mod Accepted

@@ -1,0 +1,64 @@
+-- Where neither number is too large the difference fits. Else a term lies outside the limits: were the second number and the difference
+-- within them, the first would be at most 2,000.
+use borrow.Author.Needs.{needs}
+use borrow.Author.Tests.{le-ltb, ltb-false}
+use mathlib.Core.Path.{_≡_, refl, sym, _∙_}
+use mathlib.Core.Bool.{Bool, true, false, true≢false, _||_}
+use Prim.Native.Nat.{_+_, _≤_}
+use native.Mathlib.Omega.{arith}
+use lib.IntN.{ℤ, pos, negℤ, natAbs, _+ℤ_, _-ℤ_}
+use mir.Syntax.{w64}
+use mir.Val.{SFits}
+use mir.Facts.{toZ-ofZ}
+use Rattle.algebra.proofs.Integer.{signed, split-add, split-neg}
+use Rattle.algebra.proofs.Or.{or-left, or-right, or-second}
+use Rattle.algebra.proofs.Size.{size-add, size-sub, size-fits}
+use Rattle.model.specs.Limits.{beyond}
+use Rattle.published.proofs.Accepted.{same-refusal}
+use Rattle.published.proofs.difference.Statement.{statement}
+use Rattle.published.proofs.difference.Tie as tie
+
+size-first : (a b : ℤ) → natAbs a ≤ natAbs (a -ℤ b) + natAbs b
+size-first a b = rw back at (size-add (a -ℤ b) b)
+  where
+    back : a -ℤ b +ℤ b ≡ a
+    back = omega (signed, split-add (a -ℤ b) b, split-add a (negℤ b), split-neg b .0, split-neg b .1)
+
+term-outside : (x y : ℤ) → (beyond 2000 x || beyond 1000 y) ≡ true → (beyond 1000 y || beyond 1000 (x -ℤ y)) ≡ true
+term-outside x y e = by (beyond 1000 y || beyond 1000 (x -ℤ y)) refl
+  where
+    by : (t : Bool) → (beyond 1000 y || beyond 1000 (x -ℤ y)) ≡ t → t ≡ true
+    by true k = refl
+    by false k =
+        let fails = or-left (beyond 1000 y) (beyond 1000 (x -ℤ y)) k in
+        let second = ltb-false 1000 (natAbs y) fails in
+        let less = ltb-false 1000 (natAbs (x -ℤ y)) (or-right (beyond 1000 y) (beyond 1000 (x -ℤ y)) k) in
+        let first = le-ltb 2000 (natAbs x) (omega (arith, size-first x y)) in
+        absurd (true≢false (rw (first, fails) at (sym e)))
+
+difference-fits : (x y : ℤ) → (beyond 2000 x || beyond 1000 y) ≡ false → SFits w64 (x -ℤ y)
+difference-fits x y e =
+    let first = ltb-false 2000 (natAbs x) (or-left (beyond 2000 x) (beyond 1000 y) e) in
+    let second = ltb-false 1000 (natAbs y) (or-right (beyond 2000 x) (beyond 1000 y) e) in
+    size-fits w64 (x -ℤ y) (omega (arith, size-sub x y))
+
+test-is : (c : tie.After-is-too-large) → let a = c .before .args in c .is-too-large .result ≡ (beyond 2000 (a .beta-0) || beyond 1000 (a .beta-1))
+test-is c = rw (toZ-ofZ (c .before .fits .beta-0), toZ-ofZ (c .before .fits .beta-1)) at (c .is-too-large .ensures)
+
+returns : tie.Need-returns
+returns c constant divisor =
+    let a = c .before .before .args in
+    same-refusal constant divisor (a .beta-1) (pos 1001) (a .beta-0 -ℤ a .beta-1) (or-second (beyond 1000 (a .beta-1)) true refl)
+    (term-outside (a .beta-0) (a .beta-1) (sym (test-is (c .before)) ∙ c .if1 .taken))
+
+fits : (c : tie.Else1) → let a = c .before .before .args in SFits w64 (a .beta-0 -ℤ a .beta-1)
+fits c = let a = c .before .before .args in difference-fits (a .beta-0) (a .beta-1) (sym (test-is (c .before)) ∙ c .if1 .left)
+
+sub-result : tie.Need-sub-result
+sub-result c = let f = c .before .before .fits in rw (toZ-ofZ (f .beta-0), toZ-ofZ (f .beta-1)) (fits c)
+
+returns-2 : tie.Need-returns-2
+returns-2 c constant divisor = let f = c .before .before .fits in rw (toZ-ofZ (f .beta-0), toZ-ofZ (f .beta-1), toZ-ofZ (fits c)) refl
+
+pub difference-spec : {M : Type 1} → statement M
+difference-spec = tie.close (tie.spec (λ c κs. search needs) returns sub-result returns-2)
