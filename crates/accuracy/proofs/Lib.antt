@@ -5,3 +5,4 @@ pub mod Bounds
 pub mod Accuracy
 pub mod Query
 pub mod GivenStart
+pub mod GivenLaw

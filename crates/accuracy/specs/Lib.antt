@@ -1,5 +1,6 @@
--- Demand 3, as statements about what the lent rows hold on return (`Accuracy`), and what it says of quantiles (`Query`) and of starts from
--- a law's own name (`GivenStart`).
+-- Demand 3, as statements about what the lent rows hold on return (`Accuracy`), and what it says of quantiles (`Query`), of starts from a
+-- law's own name (`GivenStart`) and of laws from a publication (`GivenLaw`).
 pub mod Accuracy
 pub mod Query
 pub mod GivenStart
+pub mod GivenLaw

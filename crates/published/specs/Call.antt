@@ -50,8 +50,8 @@ turn D z = cond (ltZ D (pos 0)) (negℤ z) z
 abbrev pub turnedLaw : (D A B : ℤ) → Law
 turnedLaw D A B = firstTerm 1 (natAbs (turn D D)) (turn D A) (turn D B)
 
--- ---- "It refuses with 51 a constant on the left that is not zero, then 52 a zero coefficient of n on the left, then 53 a D or term outside
--- our limits."
+-- ---- "It refuses with 51 a constant on the left that is not zero, then 52 a zero coefficient of n on the left, then 53 a D or term
+-- outside our limits."
 abbrev pub wrongLimits : (D A B : ℤ) → Bool
 wrongLimits D A B = outside 1 1000 (natAbs (turn D D)) || (beyond 1000 (turn D A) || beyond 1000 (turn D B))
 

@@ -1,23 +1,45 @@
 -- Where neither number is too large the difference fits. Else a term lies outside the limits: were the second number and the difference
--- within them, the first would be at most 2,000.
+-- within them, the first would be at most 2,000. And all terms outside the limits are refused alike.
 use borrow.Author.Needs.{needs}
 use borrow.Author.Tests.{le-ltb, ltb-false}
 use mathlib.Core.Path.{_≡_, refl, sym, _∙_}
-use mathlib.Core.Bool.{Bool, true, false, true≢false, _||_}
+use mathlib.Core.Bool.{Bool, true, false, true≢false, not, _||_, cond}
 use Prim.Native.Nat.{_+_, _≤_}
 use native.Mathlib.Omega.{arith}
 use lib.IntN.{ℤ, pos, negℤ, natAbs, _+ℤ_, _-ℤ_}
 use mir.Syntax.{w64}
 use mir.Val.{SFits}
 use mir.Facts.{toZ-ofZ}
+use Rattle.algebra.specs.Table.{sameInteger}
 use Rattle.algebra.proofs.Integer.{signed, split-add, split-neg}
 use Rattle.algebra.proofs.Or.{or-left, or-right, or-second}
 use Rattle.algebra.proofs.Size.{size-add, size-sub, size-fits}
-use Rattle.model.specs.Limits.{beyond}
-use Rattle.published.proofs.Accepted.{same-refusal}
+use Rattle.model.specs.Answer.{Answer, refused, firstOf}
+use Rattle.model.specs.Limits.{outside, beyond}
+use Rattle.published.specs.Call.{told, turn, turnedLaw, wrongLimits, noLaw, made, lawOfLine}
+use Rattle.published.proofs.Accepted.{turn-size}
 use Rattle.published.proofs.difference.Statement.{statement}
 use Rattle.published.proofs.difference.Tie as tie
 
+-- ---- a refusal that the terms do not change
+-- 51, 52 or 53, by the first two tests
+refusal : (constant D : ℤ) → Answer
+refusal constant D = cond (not (sameInteger constant (pos 0))) (refused 51 0) (cond (sameInteger D (pos 0)) (refused 52 0) (refused 53 0))
+
+refused-law : (constant D A B : ℤ) → (beyond 1000 A || beyond 1000 B) ≡ true → lawOfLine constant D A B ≡ told (refusal constant D) noLaw
+unfolding lawOfLine firstOf refusal
+refused-law constant D A B e = rw wrong (by (not (sameInteger constant (pos 0))) (sameInteger D (pos 0)))
+  where
+    wrong : wrongLimits D A B ≡ true
+    wrong = or-second (outside 1 1000 (natAbs (turn D D))) _ (rw (turn-size D A, turn-size D B) e)
+
+    by : (s t : Bool) → let answer = cond s (refused 51 0) (cond t (refused 52 0) (refused 53 0)) in
+        made answer (turnedLaw D A B) ≡ told answer noLaw
+    by true t = refl
+    by false true = refl
+    by false false = refl
+
+-- ---- sizes
 size-first : (a b : ℤ) → natAbs a ≤ natAbs (a -ℤ b) + natAbs b
 size-first a b = rw back at (size-add (a -ℤ b) b)
   where
@@ -42,14 +64,17 @@ difference-fits x y e =
     let second = ltb-false 1000 (natAbs y) (or-right (beyond 2000 x) (beyond 1000 y) e) in
     size-fits w64 (x -ℤ y) (omega (arith, size-sub x y))
 
-test-is : (c : tie.After-is-too-large) → let a = c .before .args in c .is-too-large .result ≡ (beyond 2000 (a .beta-0) || beyond 1000 (a .beta-1))
+-- ---- the function
+test-is : (c : tie.After-is-too-large) → let a = c .before .args in
+    c .is-too-large .result ≡ (beyond 2000 (a .beta-0) || beyond 1000 (a .beta-1))
 test-is c = rw (toZ-ofZ (c .before .fits .beta-0), toZ-ofZ (c .before .fits .beta-1)) at (c .is-too-large .ensures)
 
 returns : tie.Need-returns
 returns c constant divisor =
     let a = c .before .before .args in
-    same-refusal constant divisor (a .beta-1) (pos 1001) (a .beta-0 -ℤ a .beta-1) (or-second (beyond 1000 (a .beta-1)) true refl)
-    (term-outside (a .beta-0) (a .beta-1) (sym (test-is (c .before)) ∙ c .if1 .taken))
+    refused-law constant divisor (a .beta-1) (pos 1001) (or-second (beyond 1000 (a .beta-1)) true refl)
+    ∙ sym (refused-law constant divisor (a .beta-1) (a .beta-0 -ℤ a .beta-1)
+    (term-outside (a .beta-0) (a .beta-1) (sym (test-is (c .before)) ∙ c .if1 .taken)))
 
 fits : (c : tie.Else1) → let a = c .before .before .args in SFits w64 (a .beta-0 -ℤ a .beta-1)
 fits c = let a = c .before .before .args in difference-fits (a .beta-0) (a .beta-1) (sym (test-is (c .before)) ∙ c .if1 .left)

@@ -15,7 +15,8 @@ returns : tie.Need-returns
 returns c =
     let s = c .before .before in
     let f = s .fits in
-    let law = rw (toZ-ofZ (f .alpha-0), toZ-ofZ (f .alpha-1), toZ-ofZ (f .beta-1), difference-is (c .before)) at (c .law-of-line .ensures) in
+    let law = rw (toZ-ofZ (f .alpha-0), toZ-ofZ (f .alpha-1), toZ-ofZ (f .beta-1), difference-is (c .before))
+    at (c .law-of-line .ensures) in
     let same = rw (toZ-ofZ (f .beta-0), toZ-ofZ (f .beta-1)) at (c .before .difference .ensures) in
     law ∙ same (s .args .alpha-0) (s .args .alpha-1)
 

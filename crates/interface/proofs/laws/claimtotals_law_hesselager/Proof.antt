@@ -10,8 +10,8 @@ returns : tie.Need-returns
 returns c =
     let made = c .before .before .before .before in
     let f = made .before .fits in
-    c .hand-over .ensures
-    ∙ ap firstOrder (rw (toZ-ofZ (f .b-0), toZ-ofZ (f .b-1), toZ-ofZ (f .a-0), toZ-ofZ (f .a-1)) at (made .hesselager .ensures))
+    c .hand-over .ensures ∙ ap firstOrder
+    (rw (toZ-ofZ (f .b-0), toZ-ofZ (f .b-1), toZ-ofZ (f .a-0), toZ-ofZ (f .a-1)) at (made .hesselager .ensures))
 
 pub claimtotals-law-hesselager-spec : {M : Type 1} → statement M
 claimtotals-law-hesselager-spec = tie.close (tie.spec (λ c κs. search needs) (λ c κs. search needs) returns)

@@ -10,8 +10,8 @@ returns : tie.Need-returns
 returns c =
     let made = c .before .before .before .before in
     let f = made .before .fits in
-    c .hand-over .ensures
-    ∙ ap firstOrder (rw (toZ-ofZ (f .alpha-0), toZ-ofZ (f .alpha-1), toZ-ofZ (f .beta-0), toZ-ofZ (f .beta-1)) at (made .panjer-willmot .ensures))
+    c .hand-over .ensures ∙ ap firstOrder
+    (rw (toZ-ofZ (f .alpha-0), toZ-ofZ (f .alpha-1), toZ-ofZ (f .beta-0), toZ-ofZ (f .beta-1)) at (made .panjer-willmot .ensures))
 
 pub claimtotals-law-panjer-willmot-spec : {M : Type 1} → statement M
 claimtotals-law-panjer-willmot-spec = tie.close (tie.spec (λ c κs. search needs) (λ c κs. search needs) returns)
