@@ -1,5 +1,5 @@
-// The calls for a law. Their records: the four numbers of a line, in the order in which the call takes them. Their line: number; k, D, A_1 to
-// A_4 and B_1 to B_4.
+// The calls for a law. Their records: the four numbers of a publication's line, in the call's order. Their line: number; k, D, A_1 to A_4
+// and B_1 to B_4.
 
 use crate::input;
 use crate::show;

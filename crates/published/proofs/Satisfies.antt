@@ -116,24 +116,24 @@ panjer-willmot-sides α₀ α₁ β₀ β₁ e = record {
 
 pub divisor-positive : DivisorPositive
 divisor-positive = (
-  (λ α₀ α₁ β₀ β₁. positive α₀ α₁ β₁ (β₀ -ℤ β₁)),
+  (λ α₀ α₁ β₀ β₁. positive α₀ α₁ β₁ _),
   (λ b₀ b₁ a₀ a₁. positive b₀ b₁ a₁ a₀),
 )
 
 pub satisfies-panjer-willmot : SatisfiesPanjerWillmot
-satisfies-panjer-willmot α₀ α₁ β₀ β₁ = satisfied α₀ α₁ β₁ (β₀ -ℤ β₁) _ _ (panjer-willmot-sides α₀ α₁ β₀ β₁)
+satisfies-panjer-willmot α₀ α₁ β₀ β₁ = satisfied α₀ α₁ β₁ _ _ _ (panjer-willmot-sides α₀ α₁ β₀ β₁)
 
 pub satisfies-hesselager : SatisfiesHesselager
 satisfies-hesselager b₀ b₁ a₀ a₁ = satisfied b₀ b₁ a₁ a₀ _ _ (hesselager-sides b₀ b₁ a₀ a₁)
 
 pub only-law : OnlyLaw
 only-law = (
-  (λ α₀ α₁ β₀ β₁. determined α₀ α₁ β₁ (β₀ -ℤ β₁) _ _ (panjer-willmot-sides α₀ α₁ β₀ β₁)),
+  (λ α₀ α₁ β₀ β₁. determined α₀ α₁ β₁ _ _ _ (panjer-willmot-sides α₀ α₁ β₀ β₁)),
   (λ b₀ b₁ a₀ a₁. determined b₀ b₁ a₁ a₀ _ _ (hesselager-sides b₀ b₁ a₀ a₁)),
 )
 
 pub own-totals : OwnTotals
 own-totals = (
-  (λ α₀ α₁ β₀ β₁. same-totals α₀ α₁ β₁ (β₀ -ℤ β₁) _ _ (panjer-willmot-sides α₀ α₁ β₀ β₁)),
+  (λ α₀ α₁ β₀ β₁. same-totals α₀ α₁ β₁ _ _ _ (panjer-willmot-sides α₀ α₁ β₀ β₁)),
   (λ b₀ b₁ a₀ a₁. same-totals b₀ b₁ a₁ a₀ _ _ (hesselager-sides b₀ b₁ a₀ a₁)),
 )
