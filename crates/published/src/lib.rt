@@ -118,8 +118,8 @@ fn is_too_large(beta_0: i64, beta_1: i64) -> bool
     is_beyond(2000, beta_0) || is_beyond(1000, beta_1)
 }
 
-// What stands for the difference in a law: where the law is refused for its terms, and the difference may not fit, a number that has it
-// refused.
+// The difference, as far as the law goes. Where a term lies outside the limits the difference may not fit, and a number stands for it that
+// is refused as well.
 fn difference(beta_0: i64, beta_1: i64) -> i64
     ensures { λ r. ⌜ ((constant divisor : ℤ)
         → lawOfLine constant divisor beta_1 r ≡ lawOfLine constant divisor beta_1 (beta_0 -ℤ beta_1)) ⌝ }
