@@ -20,19 +20,21 @@ A sheet is plain text. This one has a Poisson law with mean 1 and claims of size
     W 1
 
 `start_of_mean(1)` gives the start of this law, and `start_of_trials` that of a binomial law or of a negative binomial law of whole shape.
+`law_panjer_willmot` and `law_hesselager` give the divisor and the terms of a law, from the numbers of a publication's line.
 
 Chances are in units of one billionth. Every number comes from a call of the proved library; a call that refuses raises `Refused`, and what
 does not fit a call is a ValueError before it.
 """
 from claimtotals.curves import Curve, Job, Quantile, Row, curve, quantile
+from claimtotals.laws import Law, law_hesselager, law_panjer_willmot
 from claimtotals.layout import digits
 from claimtotals.library import MOST_BYTES, UNIT
 from claimtotals.refusals import Refused
 from claimtotals.sheets import Sheet, read_sheet
 from claimtotals.starts import Start, start_of_mean, start_of_trials
 
-__all__ = ["MOST_BYTES", "UNIT", "Curve", "Job", "Quantile", "Refused", "Row", "Sheet", "Start", "curve", "digits", "quantile",
-           "read_sheet", "start_of_mean", "start_of_trials"]
+__all__ = ["MOST_BYTES", "UNIT", "Curve", "Job", "Law", "Quantile", "Refused", "Row", "Sheet", "Start", "curve", "digits", "law_hesselager",
+           "law_panjer_willmot", "quantile", "read_sheet", "start_of_mean", "start_of_trials"]
 
 
 def __getattr__(name: str) -> str:

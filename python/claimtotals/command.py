@@ -8,15 +8,16 @@ from typing import Callable, NamedTuple, Optional, Sequence
 from claimtotals import layout, library, streams
 from claimtotals.advice import about_excess, about_sums
 from claimtotals.curves import Curve
+from claimtotals.laws import law_hesselager, law_panjer_willmot
 from claimtotals.picture import DEFAULT_TITLE, picture
 from claimtotals.refusals import Refused
 from claimtotals.sheets import read_sheet
 from claimtotals.starts import start_of_mean, start_of_trials
-from claimtotals.usage import Parser, Version, called, title
+from claimtotals.usage import Once, Parser, Version, called, title
 
 COMMAND = "claimtotals"
 
-EXAMPLES = ("start --mean 37/10", "table examples/poisson.txt --digits", "level examples/poisson.txt 0.99",
+EXAMPLES = ("start --mean 37/10", "law --alpha 0 9 --beta 12 -1", "table examples/poisson.txt --digits", "level examples/poisson.txt 0.99",
             "picture examples/poisson.txt -o glass.svg")
 STATUS = "status: 0; 1 where a call refuses, which is told in words on standard error; 2 for wrong use, and where input or output fails"
 
@@ -76,6 +77,45 @@ def trials_alone(given: argparse.Namespace) -> str:
 def start(given: argparse.Namespace) -> int:
     found = start_of_mean(*given.mean) if given.mean else start_of_trials(*given.chance, given.trials)
     streams.write_output(f"{found.line()}\n".encode())
+    return streams.SUCCESS
+
+
+# ---- law
+
+# The options of each line, left and then right.
+PANJER_WILLMOT, HESSELAGER = ("alpha", "beta"), ("b", "a")
+
+# A minus sign as publications print it, and dashes that look like one.
+MINUS, DASHES = "\u2212", "\u2010-\u2015\ufe58\ufe63\uff0d"
+
+
+def coefficient(text: str) -> int:
+    """A number of a line. 18 digits always fit the call."""
+    if re.match(f"[{DASHES}]", text):
+        raise argparse.ArgumentTypeError(f"{text!r:.60} begins with a dash that is no minus sign: write - for it, as in -1")
+    if not re.fullmatch(f"[-{MINUS}]?[0-9]{{1,18}}", text):
+        raise argparse.ArgumentTypeError(
+            f"{text!r:.60} is no whole number of at most 18 digits: write 1000 for 1,000, and where the line has decimals or fractions, "
+            "multiply all four numbers by the same number")
+    return int(text.replace(MINUS, "-"))
+
+
+def sides(given: argparse.Namespace) -> dict[str, list[int]]:
+    """The sides of lines that were given, by their options."""
+    return {name: getattr(given, name) for name in PANJER_WILLMOT + HESSELAGER if getattr(given, name) is not None}
+
+
+def line_name(given: argparse.Namespace) -> str:
+    return ", ".join(f"{name} {first} {second}" for name, (first, second) in sides(given).items())
+
+
+def half_line(given: argparse.Namespace) -> str:
+    return "" if tuple(sides(given)) in (PANJER_WILLMOT, HESSELAGER) else "--alpha and --beta go together, or --b and --a, and no others"
+
+
+def law(given: argparse.Namespace) -> int:
+    found = law_panjer_willmot(*given.alpha, *given.beta) if given.alpha else law_hesselager(*given.b, *given.a)
+    streams.write_output(f"{found.lines()}\n".encode())
     return streams.SUCCESS
 
 
@@ -177,6 +217,29 @@ def add_start(commands: argparse._SubParsersAction) -> None:
     parser.set_defaults(about=law_name, wrong=trials_alone)
 
 
+def add_law(commands: argparse._SubParsersAction) -> None:
+    parser = subcommand(
+        commands, "law", law,
+        "The LAW and TERM lines of a sheet, from a publication's own line: that of Panjer and Willmot or that of Hesselager, for a law of\n"
+        "order 1. The line holds for every n from 1, and p_n is the chance of n claims.\n"
+        "\n"
+        "Give whole numbers: where the line has fractions, multiply all four numbers by the same number. Nothing is reduced. A sheet has\n"
+        "no place for a constant on the left, alpha_0 or b_0, that is not 0. Nor has it one for further coefficients such as alpha_2 or\n"
+        "beta_2: to leave them out gives another law, and nothing here can see that.\n"
+        "\n"
+        "For a binomial law Panjer and Willmot print N - p as beta_0, where Np is meant. No line tells the chance of no claims: the START\n"
+        f"line is another matter, see `{called(COMMAND)} start --help`.",
+        "--alpha 0 9 --beta 12 -1", "--b 0 9 --a 13 -1")
+    lines = {"Panjer and Willmot's line, (alpha_0 + alpha_1 n) p_n = (beta_0 + beta_1 (n-1)) p_(n-1)": PANJER_WILLMOT,
+             "Hesselager's line, (b_0 + b_1 n) p_n = (a_0 + a_1 n) p_(n-1)": HESSELAGER}
+    for line, names in lines.items():
+        group = parser.add_argument_group(line)
+        for name, side in zip(names, ("left", "right")):
+            numbers = f"{name}_0", f"{name}_1"
+            group.add_argument(f"--{name}", action=Once, metavar=numbers, nargs=2, type=coefficient, help=f"the numbers on the {side}")
+    parser.set_defaults(about=line_name, wrong=half_line)
+
+
 def add_table(commands: argparse._SubParsersAction) -> None:
     parser = subcommand(
         commands, "table", table, "The chance of each total: low, high and bound in billionths, as `curve` writes them.",
@@ -213,7 +276,7 @@ def arguments(words: Optional[Sequence[str]], version: Callable[[], str]) -> arg
                     epilog="\n".join(["example:", *(f"  {called(COMMAND)} {example}" for example in EXAMPLES), "", STATUS]))
     parser.add_argument("--version", action=Version, command=COMMAND, find=version)
     commands = parser.add_subparsers(metavar="COMMAND", required=True)
-    for add in add_start, add_table, add_level, add_picture:
+    for add in add_start, add_law, add_table, add_level, add_picture:
         add(commands)
     given = parser.parse_args(words)
     wrong = given.wrong(given)

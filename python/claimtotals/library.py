@@ -4,8 +4,10 @@ from __future__ import annotations
 import ctypes
 import functools
 import pathlib
-from ctypes import POINTER, c_int64, c_size_t, c_uint64
-from typing import Callable, Iterable
+from ctypes import POINTER, byref, c_int64, c_size_t, c_uint64
+from typing import Callable, Iterable, Sequence
+
+from claimtotals.refusals import Refused
 
 UNIT = 1_000_000_000
 
@@ -86,6 +88,15 @@ find: Callable[[], pathlib.Path] = stored
 def calls() -> ctypes.CDLL:
     """The library, opened when the first call is made."""
     return open_library(find())
+
+
+def answered(name: str, given: Sequence[int], *kinds: type) -> list[int]:
+    """The numbers of these kinds that a call gives, for those that it is given; Refused where it refuses, which has no place."""
+    found = [kind() for kind in kinds]
+    number = getattr(calls(), name)(*given, *map(byref, found))
+    if number:
+        raise Refused(number, 0)
+    return [one.value for one in found]
 
 
 def version() -> str:

@@ -5,6 +5,8 @@ from __future__ import annotations
 import ctypes
 import operator
 from collections.abc import Mapping, Set
+from decimal import Decimal
+from fractions import Fraction
 from typing import Iterable
 
 UNSIGNED = ctypes.c_uint64
@@ -16,9 +18,12 @@ LIMITS = {UNSIGNED: (0, 2 ** 64 - 1), SIGNED: (-2 ** 63, 2 ** 63 - 1)}
 MOST_BITS_SHOWN = 128
 
 
-def whole(name: str, number: object, kind: type = UNSIGNED) -> int:
-    """A whole number that fits, as a plain one; it may be one of numpy's. A float never is one, nor is True."""
+def whole(name: str, number: object, kind: type = UNSIGNED, advice: str = "") -> int:
+    """A whole number that fits, as a plain one; it may be one of numpy's. A float never is one, as few of them are the decimals that they
+    are written as; nor is True. The advice is for those who have a decimal or a fraction."""
     least, most = LIMITS[kind]
+    if advice and isinstance(number, (float, Decimal, Fraction)):
+        raise ValueError(f"{name}: {number!r:.200} is not taken; {advice}")
     try:
         found = int(operator.index(number))
     except TypeError:

@@ -1,14 +1,10 @@
 """Starts: the chance of no claims as a sheet has it, from a law's mean, or from a chance and a number of trials."""
 from __future__ import annotations
 
-from ctypes import byref
-from decimal import Decimal
-from fractions import Fraction
-from typing import Callable, NamedTuple
+from typing import NamedTuple
 
-from claimtotals import library
+from claimtotals.library import answered
 from claimtotals.numbers import UNSIGNED, whole
-from claimtotals.refusals import Refused
 
 
 class Start(NamedTuple):
@@ -26,19 +22,8 @@ class Start(NamedTuple):
 
 
 def part(name: str, number: int) -> int:
-    """A number of a fraction. A float is none, as few of them are the decimals that they are written as."""
-    if isinstance(number, (float, Decimal, Fraction)):
-        raise ValueError(f"{name}: {number!r} is not taken; a fraction is given as two whole numbers, 3.7 as 37 and 10")
-    return whole(name, number)
-
-
-def answered(call: Callable[..., int], *given: int) -> Start:
-    """What a call gives, which has no place for a refusal."""
-    low, high = UNSIGNED(), UNSIGNED()
-    number = call(*given, byref(low), byref(high))
-    if number:
-        raise Refused(number, 0)
-    return Start(low.value, high.value)
+    """A number of a fraction."""
+    return whole(name, number, advice="a fraction is given as two whole numbers, 3.7 as 37 and 10")
 
 
 def start_of_mean(upper: int, lower: int = 1) -> Start:
@@ -48,8 +33,8 @@ def start_of_mean(upper: int, lower: int = 1) -> Start:
     >>> start_of_mean(37, 10).line()
     'START 24723525 24723527'
     """
-    upper, lower = part("upper", upper), part("lower", lower)
-    return answered(library.calls().claimtotals_start_mean, upper, lower)
+    given = part("upper", upper), part("lower", lower)
+    return Start(*answered("claimtotals_start_mean", given, UNSIGNED, UNSIGNED))
 
 
 def start_of_trials(upper: int, lower: int, trials: int) -> Start:
@@ -60,5 +45,5 @@ def start_of_trials(upper: int, lower: int, trials: int) -> Start:
     >>> start_of_trials(1, 10, trials=12)
     Start(low=282429536, high=282429538)
     """
-    upper, lower, trials = part("upper", upper), part("lower", lower), whole("trials", trials)
-    return answered(library.calls().claimtotals_start_trials, upper, lower, trials)
+    given = part("upper", upper), part("lower", lower), whole("trials", trials)
+    return Start(*answered("claimtotals_start_trials", given, UNSIGNED, UNSIGNED))

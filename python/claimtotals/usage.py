@@ -45,6 +45,15 @@ class Parser(argparse.ArgumentParser):
         streams.write_output(self.format_help().encode())
 
 
+class Once(argparse.Action):
+    """Of an option that is given twice argparse would take the last, and drop the other without a word."""
+
+    def __call__(self, parser: argparse.ArgumentParser, given: argparse.Namespace, value: object, *_: object) -> None:
+        if getattr(given, self.dest) is not None:
+            raise argparse.ArgumentError(self, "it is given twice")
+        setattr(given, self.dest, value)
+
+
 class Version(argparse.Action):
     """Writes a version, which is found only where it is asked for."""
 

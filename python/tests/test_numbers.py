@@ -5,7 +5,8 @@ from decimal import Decimal
 from fractions import Fraction
 from unittest import mock
 
-from claimtotals import Job, Refused, Sheet, curve, digits, quantile, start_of_mean, start_of_trials
+from claimtotals import (Job, Refused, Sheet, curve, digits, law_hesselager, law_panjer_willmot, quantile, start_of_mean,
+                         start_of_trials)
 
 # The paper's P2, with the weight 1.
 JOB = Job(1, 1, (-1, 0, 0, 0), (3, 0, 0, 0), 250000000, 250000000, 4)
@@ -38,6 +39,11 @@ def with_term(name, place, number):
     return JOB._replace(**{name: terms})
 
 
+# The calls that make a law, each with the numbers of a good one.
+LAWS = {law_panjer_willmot: {"alpha_0": 0, "alpha_1": 1, "beta_0": 1, "beta_1": 1},
+        law_hesselager: {"b_0": 0, "b_1": 1, "a_0": 1, "a_1": 1}}
+
+
 def takers():
     """Each number that can be handed over: what it is called, its kind, and a function that hands it over."""
     for name in "order", "divisor", "start_low", "start_high", "last":
@@ -64,6 +70,9 @@ def takers():
     yield "upper", "unsigned", lambda number: start_of_trials(number, 3, 1)
     yield "lower", "unsigned", lambda number: start_of_trials(0, number, 1)
     yield "trials", "unsigned", lambda number: start_of_trials(0, 1, number)
+    for call, good in LAWS.items():
+        for name in good:
+            yield name, "signed", lambda number, call=call, good=good, name=name: call(**{**good, name: number})
 
 
 class NoCall(unittest.TestCase):
@@ -148,6 +157,8 @@ class Taken(unittest.TestCase):
                 self.assertEqual(digits(one, three), "at most 0.000000003")
                 self.assertEqual(start_of_mean(three, three), (367879441, 367879442))
                 self.assertEqual(start_of_trials(one, three, one), (666666666, 666666667))
+                self.assertEqual(law_panjer_willmot(Whole(0), three, one, one), (3, 1, 0))
+                self.assertEqual(law_hesselager(Whole(0), three, one, one), (3, 1, 1))
                 self.assertEqual(Sheet(JOB, [one, three]).text().splitlines()[-2:], [b"W 1", b"W 3"])
 
     def test_all_bits(self):
@@ -158,7 +169,9 @@ class Taken(unittest.TestCase):
                 (32, lambda: quantile([1], [1], 2 ** 63 - 1)), (32, lambda: quantile([1], [1], -2 ** 63)),
                 (33, lambda: quantile([-2 ** 63], [2 ** 63 - 1], 1)), (41, lambda: start_of_mean(2 ** 64 - 1)),
                 (41, lambda: start_of_mean(1, 2 ** 64 - 1)), (41, lambda: start_of_trials(0, 2 ** 64 - 1, 1)),
-                (42, lambda: start_of_trials(2 ** 64 - 1, 1, 1)), (43, lambda: start_of_trials(0, 1, 2 ** 64 - 1))):
+                (42, lambda: start_of_trials(2 ** 64 - 1, 1, 1)), (43, lambda: start_of_trials(0, 1, 2 ** 64 - 1)),
+                (51, lambda: law_panjer_willmot(2 ** 63 - 1, 1, 1, 0)), (51, lambda: law_hesselager(-2 ** 63, 1, 1, 0)),
+                (53, lambda: law_panjer_willmot(0, -2 ** 63, 1, 0)), (53, lambda: law_hesselager(0, 1, 2 ** 63 - 1, 0))):
             with self.subTest(number), self.assertRaises(Refused) as caught:
                 call()
             self.assertEqual(caught.exception.number, number)

@@ -9,7 +9,8 @@ import typing
 import unittest
 
 import claimtotals
-from claimtotals import Job, Refused, curve, library, quantile, read_sheet, start_of_mean, start_of_trials
+from claimtotals import (Job, Refused, curve, law_hesselager, law_panjer_willmot, library, quantile, read_sheet, start_of_mean,
+                         start_of_trials)
 
 # All but `__main__`, which is the command itself and would run.
 FILES = [path for path in pathlib.Path(claimtotals.__file__).parent.glob("*.py") if not path.name.startswith("_")]
@@ -26,8 +27,8 @@ def load_tests(_, tests, pattern):
 class Names(unittest.TestCase):
     def test_all(self):
         self.assertEqual(set(claimtotals.__all__), {
-            "MOST_BYTES", "UNIT", "Curve", "Job", "Quantile", "Refused", "Row", "Sheet", "Start", "curve", "digits", "quantile",
-            "read_sheet", "start_of_mean", "start_of_trials"})
+            "MOST_BYTES", "UNIT", "Curve", "Job", "Law", "Quantile", "Refused", "Row", "Sheet", "Start", "curve", "digits",
+            "law_hesselager", "law_panjer_willmot", "quantile", "read_sheet", "start_of_mean", "start_of_trials"})
         for name in claimtotals.__all__:
             self.assertTrue(hasattr(claimtotals, name), name)
 
@@ -37,7 +38,8 @@ class Names(unittest.TestCase):
     def test_examples(self):
         """There are some in the comments."""
         names = [module.__name__ for module in MODULES if any(test.examples for test in doctest.DocTestFinder().find(module))]
-        self.assertLessEqual({"claimtotals.curves", "claimtotals.layout", "claimtotals.sheets", "claimtotals.starts"}, set(names))
+        some = {"claimtotals.curves", "claimtotals.laws", "claimtotals.layout", "claimtotals.sheets", "claimtotals.starts"}
+        self.assertLessEqual(some, set(names))
 
     def test_version(self):
         """It is that of the library, which has it as major * 10,000 + minor * 100 + patch."""
@@ -68,8 +70,8 @@ def functions():
 class Types(unittest.TestCase):
     def test_functions(self):
         """Each parameter has a type that can be looked up, and so has what is returned."""
-        some = {"curve", "read_sheet", "start_of_mean", "Job.of", "Sheet.text", "Sheet.curve", "Start.line", "Curve.quantile",
-                "Curve.__getitem__", "Row.digits"}
+        some = {"curve", "read_sheet", "start_of_mean", "law_hesselager", "Job.of", "Sheet.text", "Sheet.curve", "Start.line", "Law.lines",
+                "Curve.quantile", "Curve.__getitem__", "Row.digits"}
         self.assertLessEqual(some, set(dict(functions())))
         for name, function in functions():
             with self.subTest(name):
@@ -77,8 +79,9 @@ class Types(unittest.TestCase):
                 self.assertEqual(set(typing.get_type_hints(function)), {*parameters, "return"})
 
     def test_fields(self):
-        for kind in claimtotals.Job, claimtotals.Sheet, claimtotals.Row, claimtotals.Quantile, claimtotals.Start:
+        for kind in claimtotals.Job, claimtotals.Sheet, claimtotals.Row, claimtotals.Quantile, claimtotals.Start, claimtotals.Law:
             self.assertEqual(tuple(typing.get_type_hints(kind)), kind._fields)
+        self.assertEqual(set(typing.get_type_hints(claimtotals.Law.terms.fget)), {"return"})
         self.assertEqual(tuple(typing.get_type_hints(claimtotals.Curve)), ("low", "high", "bound"))
 
     def test_comments(self):
@@ -118,6 +121,11 @@ def starts(number):
     return start_of_trials(0, number, number), start_of_mean(number, number)
 
 
+def laws(number):
+    """Of lines with n times this number on the left."""
+    return law_panjer_willmot(0, number, 3, 1), law_hesselager(0, -number, 3, 1)
+
+
 class Threads(unittest.TestCase):
     def setUp(self):
         """Python changes from one thread to another as often as it can."""
@@ -127,7 +135,8 @@ class Threads(unittest.TestCase):
     def test_at_once(self):
         row = (250000000, 500000000, 250000000, 0, 0)
         asked = {binomial: lambda _: (row, row, (0, 1, 2, 1, 2)), sheet: lambda number: (number, 7), word: lambda number: b"%dx" % number,
-                 level: lambda number: (number, 0), starts: lambda _: ((10 ** 9, 10 ** 9), (367879441, 367879442))}
+                 level: lambda number: (number, 0), starts: lambda _: ((10 ** 9, 10 ** 9), (367879441, 367879442)),
+                 laws: lambda number: ((number, 1, 2), (number, -1, -3))}
         calls = [(call, 1 + count % 300) for count in range(1200) for call in asked]
         with concurrent.futures.ThreadPoolExecutor(8) as threads:
             found = list(threads.map(lambda given: given[0](given[1]), calls))

@@ -3,7 +3,8 @@ import copy
 import pickle
 import unittest
 
-from claimtotals import UNIT, Job, Refused, curve, quantile, read_sheet, start_of_mean, start_of_trials
+from claimtotals import (UNIT, Job, Refused, curve, law_hesselager, law_panjer_willmot, quantile, read_sheet, start_of_mean,
+                         start_of_trials)
 
 # The paper's P1 as a sheet and P2 as a job.
 TEXT = b"LAW 1 1\nTERM 0 1\nSTART 367879441 367879442\nLAST 3\nSEVERITY 2\nW 1\nW 1\n"
@@ -34,6 +35,9 @@ CASES = {
     41: ("Fraction", 0, "", lambda: start_of_mean(37, 0)),
     42: ("Chance", 0, "", lambda: start_of_trials(5, 1, 30)),
     43: ("Trials", 0, "", lambda: start_of_trials(1, 20, 0)),
+    51: ("Constant", 0, "", lambda: law_panjer_willmot(1, 1, 2, 2)),
+    52: ("Coefficient", 0, "", lambda: law_hesselager(0, 0, 13, -1)),
+    53: ("Limits", 0, "", lambda: law_panjer_willmot(0, 9, 1000, -1)),
 }
 
 
@@ -83,13 +87,13 @@ class Attributes(unittest.TestCase):
 
     def test_source(self):
         """With the name of a file."""
-        for number, between in (24, ", line 6: "), (21, ": "), (9, ", total 1: "), (41, ": "):
+        for number, between in (24, ", line 6: "), (21, ": "), (9, ", total 1: "), (41, ": "), (51, ": "):
             refusal = raised(CASES[number][3])
             self.assertTrue(refusal.of("a.txt").startswith(f"a.txt{between}refused by {number}: "), refusal.of("a.txt"))
 
     def test_copies(self):
         """As where it is raised in another process."""
-        for number in 6, 23, 24, 33, 41:
+        for number in 6, 23, 24, 33, 41, 51:
             refusal = raised(CASES[number][3])
             for other in pickle.loads(pickle.dumps(refusal)), copy.copy(refusal):
                 with self.subTest(number):
