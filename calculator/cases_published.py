@@ -111,6 +111,8 @@ PANJER_WILLMOT = [
     # alpha_0 = lambda, alpha_1 = 1, beta_0 = a, beta_1 = 1
     Case("Waring, lambda 3, a 2", 51, (3, 1, 2, 1)),
     Case("Waring, lambda 1/2, a 1/4", 51, (2, 4, 1, 4)),
+    # alpha_1 = M - N - m + 1, beta_0 = Nm and beta_1 = -(N + m - 1), with alpha_2 = beta_2 = 1 besides
+    Case("Hypergeometric, M 10, N 3, m 2, its second coefficients left out, another law", 0, (0, 6, 6, -4), 6, -4, 10),
 
     # nothing is reduced
     Case("beta 10 and 4 over 2", 0, (0, 2, 10, 4), 2, 4, 6),
@@ -153,7 +155,7 @@ PANJER_WILLMOT = [
     *[Case(f"beta_0 {b}, A 0, signs turned", 0, (0, -1, b, 0), 1, 0, -b) for b in (999, 1000, -999, -1000)],
     *[Case(f"beta_0 {b}, A 0, alpha_1 {divisor}", 53, (0, divisor, b, 0)) for divisor in (1, -1) for b in TOO_GREAT],
 
-    # 53 for B as a difference: beta_0 itself has no limit
+    # 53 for B as a difference: beta_0 has no limit of its own
     Case("2000 - 1000", 0, (0, 1, 2000, 1000), 1, 1000, 1000),
     Case("2000 - 999", 53, (0, 1, 2000, 999)),
     Case("2001 - 1000", 53, (0, 1, 2001, 1000)),

@@ -1,6 +1,6 @@
-"""Sets the calls in crates/cases/specs/Cases.antt beside outward.py, sheet.py, level.py, start.py and program.py, and the lows and highs
-of curves beside the exact amounts of exact.py. Every row must be read, and agree. Short names are read as the file defines them, with
-parameters or without; words that it takes from elsewhere are in WORDS. Another file of this form can be given as an argument."""
+"""Sets the calls in crates/cases/specs/Cases.antt beside outward.py, sheet.py, level.py, start.py, published.py and program.py, and the
+lows and highs of curves beside the exact amounts of exact.py. Every row must be read, and agree. Short names are read as the file defines
+them, with parameters or without; words that it takes from elsewhere are in WORDS. Another file of this form can be given as an argument."""
 import operator
 import pathlib
 import re
@@ -13,6 +13,7 @@ from enclosed import outside
 from level import level_query
 from outward import Job, Lent, curve
 from program import output
+from published import law_hesselager, law_panjer_willmot
 from sheet import read_sheet
 from start import start_of_mean, start_of_trials
 
@@ -72,13 +73,27 @@ def on_trials(upper, lower, trials):
     return start_record(start_of_trials(upper, lower, trials))
 
 
+def law_record(said):
+    """The law that is made has order 1, and no further terms."""
+    law = {"order": int(said.number == 0), "divisor": said.divisor, "a": [said.a, 0, 0, 0], "b": [said.b, 0, 0, 0]}
+    return {"law": {"answer": answer(said.number, 0), "law": law}}
+
+
+def on_panjer_willmot(alpha_0, alpha_1, beta_0, beta_1):
+    return law_record(law_panjer_willmot(alpha_0, alpha_1, beta_0, beta_1))
+
+
+def on_hesselager(b_0, b_1, a_0, a_1):
+    return law_record(law_hesselager(b_0, b_1, a_0, a_1))
+
+
 def on_program(sheet):
     return {"text": output(bytes(sheet)).decode()}
 
 
 # each with the number of rows that there are at least
 KINDS = {"curve": (on_curve, 13), "reader": (on_reader, 8), "level": (on_level, 13), "mean": (on_mean, 7), "trials": (on_trials, 10),
-         "program": (on_program, 4)}
+         "panjerWillmot": (on_panjer_willmot, 8), "hesselager": (on_hesselager, 7), "program": (on_program, 4)}
 
 
 class Row(NamedTuple):

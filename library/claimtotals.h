@@ -67,15 +67,16 @@ uint64_t claimtotals_start_trials(uint64_t upper, uint64_t lower, uint64_t trial
    alpha_0, alpha_1, beta_0, beta_1
                  the line's own numbers, whole; where it has fractions, all four times their common denominator
    divisor, a, b
-                 the law, which is of order 1: D, A_1 and B_1, as claimtotals_curve takes them. D is alpha_1, A_1 is beta_1 and B_1 is
-                 beta_0 - beta_1, all signs turned where alpha_1 is negative. Nothing is reduced
+                 the law, one number each: D, A_1 and B_1. For claimtotals_curve its order is 1, and A_2 to A_4 and B_2 to B_4 are 0. D is
+                 alpha_1, A_1 is beta_1 and B_1 is beta_0 - beta_1, all signs turned where alpha_1 is negative. Nothing is reduced
 
    0    accepted
    51   the constant on the left of the line is not 0
    52   the coefficient of n on the left of the line is 0
    53   the divisor D is not 1 to 1,000, or a term, A or B, is not from -1,000 to 1,000
 
-   After a refusal all three are 0. */
+   After a refusal all three are 0. What the call cannot see: the authors print N - p as the beta_0 of a binomial law, where Np is meant;
+   and a line whose further coefficients (alpha_2, beta_2) are left out is that of another law. */
 uint64_t claimtotals_law_panjer_willmot(int64_t alpha_0, int64_t alpha_1, int64_t beta_0, int64_t beta_1, uint64_t *divisor, int64_t *a,
                                         int64_t *b);
 
@@ -86,7 +87,7 @@ uint64_t claimtotals_law_panjer_willmot(int64_t alpha_0, int64_t alpha_1, int64_
    b_0, b_1, a_0, a_1
                  the line's own numbers: mind the order, which is the line's, left and then right
    divisor, a, b
-                 as with claimtotals_law_panjer_willmot. D is b_1, A_1 is a_1 and B_1 is a_0
+                 as with claimtotals_law_panjer_willmot, and not the line's own a and b: D is b_1, A_1 is a_1 and B_1 is a_0
 
    0    accepted
    51   the constant on the left of the line is not 0

@@ -1,31 +1,25 @@
--- Demand 3 for a job whose law is what a call of `published` made: the totals of the customer's own sequence; and that the limits of 53 are
--- the curve's.
+-- Demand 3 for a job whose law is what a call of `published` made: the amounts of the customer's own sequence; and that the curve takes the
+-- law, as 53 is its own 2 or 3.
 use mathlib.Core.Path.{_≡_}
-use mathlib.Core.Bool.{_||_}
+use mathlib.Core.Bool.{Bool, false, not}
 use mathlib.Core.List.{List}
 use Prim.Native.Nat.{ℕ, _≤_}
-use lib.Dec.{ltb}
 use lib.IntN.{ℤ, pos}
-use Rattle.algebra.specs.Fraction.{Fraction, _⊗_, zeroTo, Between}
+use Rattle.algebra.specs.Fraction.{Fraction, Between}
 use Rattle.model.specs.declared.Job.{Job}
 use Rattle.model.specs.Answer.{accepted}
-use Rattle.model.specs.Limits.{mostOrder, outside}
-use Rattle.exact.specs.Severity.{Severity, density, convolution}
+use Rattle.model.specs.Limits.{outside}
 use Rattle.exact.specs.JobAmount.{Divisible, severity}
-use Rattle.published.specs.Call.{Made, told, turnedLaw, wrongLimits}
-use Rattle.published.specs.Satisfies.{OfBoth}
+use Rattle.published.specs.Call.{Made, answered, turnedLaw, wrongLaw}
+use Rattle.published.specs.Satisfies.{ownAmount, OfBoth}
 use Rattle.rows.specs.Layout.{Lent}
-use Rattle.compound.specs.Call.{firstWrongTerm}
+use Rattle.compound.specs.Call.{curveAnswer}
 use Rattle.accuracy.specs.Accuracy.{Accepted, shown}
 
--- the amount at x where p_n is that of n claims: the sum over n from 0 to x of p_n times the n-fold convolution at x
-abbrev pub ownAmount : (p : ℕ → Fraction) → Severity → ℕ → Fraction
-ownAmount p table x = zeroTo x (λ n. p n ⊗ convolution (density table) n x)
-
--- a job with the law made: for every sequence with the customer's line, in units, that begins within the start, the amounts lie from low
--- to high
+-- a job with the law made: for every sequence with the customer's line, in units, that begins within the start, the amount at each total
+-- lies from low to high
 abbrev pub EnclosesOwn : Made → ((ℕ → Fraction) → Type 0) → Type 0
-EnclosesOwn made Line = (job : Job) (weights : List ℕ) (lent : Lent) → Accepted job weights lent → made ≡ told accepted (job .law)
+EnclosesOwn made Line = (job : Job) (weights : List ℕ) (lent : Lent) → Accepted job weights lent → made ≡ answered accepted (job .law)
     → (p : ℕ → Fraction) → Line p → Between (pos (job .start .low)) (pos (job .start .high)) (p 0)
     → (d : Divisible job weights) (x : ℕ) → x ≤ job .last
     → Between (shown job weights lent x .low) (shown job weights lent x .high) (ownAmount p (severity weights (d .total-pos)) x)
@@ -33,7 +27,17 @@ EnclosesOwn made Line = (job : Job) (weights : List ℕ) (lent : Lent) → Accep
 abbrev pub EnclosesPublished : Type 0
 EnclosesPublished = OfBoth EnclosesOwn
 
--- "outside our limits": what 53 refuses, 2 or 3 of the curve would
+-- the curve refuses the job by its law: by 1, 2 or 3
+abbrev pub lawRefused : Job → List ℕ → Lent → Bool
+lawRefused job weights lent = not (outside 1 3 (curveAnswer job weights lent .number))
+
+-- "outside our limits": the condition of 53 holds of D, A and B where the curve refuses the law that is made of them, whatever the rest of
+-- the job is
 abbrev pub SameLimits : Type 0
-SameLimits = (D A B : ℤ) → let law = turnedLaw D A B in
-    wrongLimits D A B ≡ (outside 1 1000 (law .divisor) || ltb (firstWrongTerm law) mostOrder)
+SameLimits = (D A B : ℤ) (job : Job) (weights : List ℕ) (lent : Lent) → job .law ≡ turnedLaw D A B
+    → wrongLaw D A B ≡ lawRefused job weights lent
+
+-- so no job is refused for a law that a call has made
+abbrev pub LawTaken : Type 0
+LawTaken = OfBoth (λ made _. made .answer ≡ accepted → (job : Job) (weights : List ℕ) (lent : Lent) → job .law ≡ made .law
+    → lawRefused job weights lent ≡ false)

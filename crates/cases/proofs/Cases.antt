@@ -17,6 +17,7 @@ use Rattle.model.specs.Answer.{Answer, refused, firstOf}
 use Rattle.outward.specs.Division.{floorDiv, ceilDiv}
 use Rattle.start.specs.Step.{times, repeated}
 use Rattle.start.specs.Call.{Started, term, series, ofMean, ofTrials, startOfMean, startOfTrials}
+use Rattle.published.specs.Call.{Made, lawOfLine, lawOfPanjerWillmot, lawOfHesselager}
 use Rattle.enclosure.specs.Entry.{scaled, rounded}
 use Rattle.rows.specs.Curve.{factor, sumsZero, sumsNext, entryAt, withNext, history, curveRows}
 use Rattle.rows.specs.Layout.{Lent, lentRows}
@@ -34,9 +35,11 @@ use Rattle.sheet.specs.Call.{Told, told, rowOnReturn}
 use Rattle.fault.specs.declared.Part.{Part}
 use Rattle.fault.specs.Call.{firstNoNumber, faultyWord, partOf, firstPart, faultyPart}
 use Rattle.report.specs.Report.{curveText, reportText}
-use Rattle.cases.specs.Cases.{Case, curve, reader, level, mean, trials, program, Holds, cases, CasesHold, test}
+use Rattle.cases.specs.Cases.{Case, curve, reader, level, mean, trials, panjerWillmot, hesselager, program, Holds, cases}
+use Rattle.cases.specs.Cases.{CasesHold, test}
 use Rattle.cases.specs.Cases.{numbers, sameAnswer, sameRow, rows, sameLent, wholeNumbers, terms, sameBytes, sameTold}
 use Rattle.cases.specs.Cases.{partNumbers, samePart, queryNumbers, sameQuantiles, endNumbers, sameStarted}
+use Rattle.cases.specs.Cases.{madeNumbers, madeTerms, sameMade}
 
 same-answer : Equates Answer sameAnswer
 same-answer x y t = ap (λ l. refused (getD l 0 0) (getD l 1 0)) (same-list ℕ eqb eqb→eq (numbers x) (numbers y) t)
@@ -103,6 +106,25 @@ same-started x y t = λ i. startedBy
     ended : Bool
     ended = sameRow (endNumbers x) (endNumbers y)
 
+-- a law made, from the lists that are compared
+madeBy : List ℕ → List (List ℤ) → Made
+madeBy numbers terms = record {
+  answer = refused (getD numbers 0 0) (getD numbers 1 0);
+  law = lawOf (getD numbers 2 0) (getD numbers 3 0) (getD terms 0 []) (getD terms 1 []);
+}
+
+same-made : Equates Made sameMade
+unfolding madeBy
+same-made x y t = λ i. madeBy
+    (same-bytes (madeNumbers x) (madeNumbers y) (and-left numbers sameTerms t) i)
+    (same-list (List ℤ) sameRow same-row (madeTerms x) (madeTerms y) (and-right numbers sameTerms t) i)
+  where
+    numbers : Bool
+    numbers = sameBytes (madeNumbers x) (madeNumbers y)
+
+    sameTerms : Bool
+    sameTerms = sameList sameRow (madeTerms x) (madeTerms y)
+
 -- a row that passes the test holds
 sound : (c : Case) → T (test c) → Holds c
 sound (curve job weights lent answer after) t = (
@@ -138,6 +160,8 @@ sound (reader s row says after word part) t =
 sound (level low high L answer) t = same-quantiles (quantiles low high L) answer t
 sound (mean r s answer) t = same-started (startOfMean r s) answer t
 sound (trials r s N answer) t = same-started (startOfTrials r s N) answer t
+sound (panjerWillmot α₀ α₁ β₀ β₁ answer) t = same-made (lawOfPanjerWillmot α₀ α₁ β₀ β₁) answer t
+sound (hesselager b₀ b₁ a₀ a₁ answer) t = same-made (lawOfHesselager b₀ b₁ a₀ a₁) answer t
 sound (program s text) t = same-bytes (reportText s) (ascii text) t
 
 pub cases-hold : CasesHold
@@ -148,5 +172,6 @@ unfolding curveAnswer curveLent rowAfter rangeFault firstFault curveRows history
     number valueFrom words longer afterLines before after has
     quantiles quantileOf
     startOfMean startOfTrials ofMean ofTrials series term repeated times
+    lawOfLine
     reportText curveText totalLines lineText spaced decimal digitsWithin
 cases-hold c m = sound c (each-passes Case test cases tt c m)

@@ -15,6 +15,7 @@ use Rattle.model.specs.declared.Job.{Job}
 use Rattle.model.specs.Job.{lawOf, startOf, jobOf}
 use Rattle.model.specs.Answer.{Answer, accepted, refused}
 use Rattle.start.specs.Call.{Started, startOfMean, startOfTrials}
+use Rattle.published.specs.Call.{Made, lawOfPanjerWillmot, lawOfHesselager}
 use Rattle.rows.specs.Layout.{Lent, lentRows}
 use Rattle.compound.specs.Call.{curveAnswer, curveLent}
 use Rattle.quantile.specs.Call.{Quantiles, quantiles}
@@ -37,6 +38,10 @@ pub data Case : Type 0 where
   mean : ℕ → ℕ → Started → Case
   -- the chance's upper and lower number and the number of trials, likewise
   trials : ℕ → ℕ → ℕ → Started → Case
+  -- the numbers of 000's line, left and then right, and the answer with its law
+  panjerWillmot : ℤ → ℤ → ℤ → ℤ → Made → Case
+  -- those of 001's line, likewise
+  hesselager : ℤ → ℤ → ℤ → ℤ → Made → Case
   -- the sheet's bytes, and the text that the program writes
   program : List ℕ → String → Case
 
@@ -49,6 +54,8 @@ Holds (reader s row says after word part) =
 Holds (level low high L answer) = quantiles low high L ≡ answer
 Holds (mean r s answer) = startOfMean r s ≡ answer
 Holds (trials r s N answer) = startOfTrials r s N ≡ answer
+Holds (panjerWillmot α₀ α₁ β₀ β₁ answer) = lawOfPanjerWillmot α₀ α₁ β₀ β₁ ≡ answer
+Holds (hesselager b₀ b₁ a₀ a₁ answer) = lawOfHesselager b₀ b₁ a₀ a₁ ≡ answer
 Holds (program s text) = reportText s ≡ ascii text
 
 -- ---- jobs
@@ -118,6 +125,14 @@ started low high = record { answer = accepted; ends = record { low = pos low; hi
 -- a refusal's numbers are 0
 abbrev notStarted : (number : ℕ) → Started
 notStarted number = record { answer = refused number 0; ends = record { low = pos 0; high = pos 0 } }
+
+-- ---- laws from a publication
+abbrev made : (law : Law) → Made
+made law = record { answer = accepted; law = law }
+
+-- a refusal's numbers are 0
+abbrev notMade : (number : ℕ) → Made
+notMade number = record { answer = refused number 0; law = law 0 0 [] [] }
 
 -- ---- the table of cases
 abbrev call : (job : Job) (weights : List ℕ) (answer : Answer) (after : ℕ → Lent) → Case
@@ -248,6 +263,27 @@ cases =
     ∷ trials 21 1 1 (notStarted 42)
     ∷ trials 0 1 0 (notStarted 43)
     ∷ trials 1 2 1001 (notStarted 43)
+    -- P1's law as 000 writes Poisson laws, and P2's as 000 writes binomial laws, with Np for N - p, and as 001 does
+    ∷ panjerWillmot (pos 0) (pos 1) (pos 1) (pos 0) (made (jobP1 .law))
+    ∷ panjerWillmot (pos 0) (pos 1) (pos 2) (negℤ (pos 1)) (made lawP2)
+    ∷ hesselager (pos 0) (pos 1) (pos 3) (negℤ (pos 1)) (made lawP2)
+    -- "all signs turned if D is negative. Nothing is reduced."
+    ∷ panjerWillmot (pos 0) (negℤ (pos 2)) (negℤ (pos 10)) (negℤ (pos 4)) (made (law 1 2 (pos 4 ∷ []) (pos 6 ∷ [])))
+    ∷ hesselager (pos 0) (negℤ (pos 2)) (negℤ (pos 6)) (pos 4) (made (law 1 2 (negℤ (pos 4) ∷ []) (pos 6 ∷ [])))
+    -- our limits are those of D, A and B, and not of β_0
+    ∷ panjerWillmot (pos 0) (pos 1) (pos 2000) (pos 1000) (made (law 1 1 (pos 1000 ∷ []) (pos 1000 ∷ [])))
+    ∷ hesselager (pos 0) (negℤ (pos 1000)) (pos 1000) (pos 1000) (made (law 1 1000 (negℤ (pos 1000) ∷ []) (negℤ (pos 1000) ∷ [])))
+    -- "with 51 a constant on the left that is not zero, then 52 a zero coefficient of n on the left, then 53 a D or term outside our
+    -- limits"
+    ∷ panjerWillmot (negℤ (pos 1)) (pos 0) (pos 1001) (pos 0) (notMade 51)
+    ∷ hesselager (pos 1) (pos 0) (pos 1001) (pos 0) (notMade 51)
+    ∷ panjerWillmot (pos 0) (pos 0) (pos 1001) (pos 0) (notMade 52)
+    ∷ hesselager (pos 0) (pos 0) (pos 1001) (pos 0) (notMade 52)
+    ∷ panjerWillmot (pos 0) (pos 1001) (pos 2) (pos 0) (notMade 53)
+    ∷ panjerWillmot (pos 0) (pos 1) (pos 1001) (pos 0) (notMade 53)
+    ∷ panjerWillmot (pos 0) (pos 1) (pos 1001) (pos 1001) (notMade 53)
+    ∷ hesselager (pos 0) (negℤ (pos 1001)) (pos 2) (pos 0) (notMade 53)
+    ∷ hesselager (pos 0) (pos 1) (negℤ (pos 1001)) (pos 0) (notMade 53)
     ∷ []
 
 -- the one claim
@@ -306,6 +342,16 @@ endNumbers x = x .ends .low ∷ x .ends .high ∷ []
 abbrev pub sameStarted : Started → Started → Bool
 sameStarted x y = sameAnswer (x .answer) (y .answer) && sameRow (endNumbers x) (endNumbers y)
 
+-- a law made, as lists
+abbrev pub madeNumbers : Made → List ℕ
+madeNumbers x = x .answer .number ∷ x .answer .place ∷ x .law .order ∷ x .law .divisor ∷ []
+
+abbrev pub madeTerms : Made → List (List ℤ)
+madeTerms x = x .law .a ∷ x .law .b ∷ []
+
+abbrev pub sameMade : Made → Made → Bool
+sameMade x y = sameBytes (madeNumbers x) (madeNumbers y) && sameList sameRow (madeTerms x) (madeTerms y)
+
 abbrev pub test : Case → Bool
 test (curve job weights lent answer after) =
     sameAnswer (curveAnswer job weights lent) answer && sameLent (curveLent job weights lent) after
@@ -316,4 +362,6 @@ test (reader s row says after word part) =
 test (level low high L answer) = sameQuantiles (quantiles low high L) answer
 test (mean r s answer) = sameStarted (startOfMean r s) answer
 test (trials r s N answer) = sameStarted (startOfTrials r s N) answer
+test (panjerWillmot α₀ α₁ β₀ β₁ answer) = sameMade (lawOfPanjerWillmot α₀ α₁ β₀ β₁) answer
+test (hesselager b₀ b₁ a₀ a₁ answer) = sameMade (lawOfHesselager b₀ b₁ a₀ a₁) answer
 test (program s text) = sameBytes (reportText s) (ascii text)

@@ -41,6 +41,6 @@ pub record FirstOrder : Type 0 where
 abbrev pub tellsLaw : Answer → ℕ → ℤ → ℤ → FirstOrder
 tellsLaw answer divisor a b = record { answer = answer; divisor = divisor; a = a; b = b }
 
--- the rest of the law is not handed over: its order is 1, and its further terms are 0
+-- the rest is not handed over: the order of a law that is made is 1, and its further terms are 0
 abbrev pub firstOrder : Made → FirstOrder
 firstOrder made = tellsLaw (made .answer) (made .law .divisor) (getD (made .law .a) 0 (pos 0)) (getD (made .law .b) 0 (pos 0))

@@ -4,7 +4,7 @@ use published::LawAnswer;
 use published::LawMade;
 use published::reason_number;
 ghost use mathlib.Core.Path.{_≡_};
-ghost use Rattle.published.specs.Call.{answerOf, paper, panjerWillmot, hesselager};
+ghost use Rattle.published.specs.Call.{answerOf, paper, lawOfPanjerWillmot, lawOfHesselager};
 ghost use Rattle.interface.specs.Handed.{returned, tellsLaw, firstOrder};
 
 fn number_of(answer: LawAnswer) -> u64
@@ -40,7 +40,7 @@ pub extern "C" fn claimtotals_law_panjer_willmot(
     b: &mut i64,
 ) -> u64
     ensures { λ r. ⌜ tellsLaw (returned r 0) (now (divisor .exit)) (now (a .exit)) (now (b .exit))
-        ≡ firstOrder (panjerWillmot alpha_0 alpha_1 beta_0 beta_1) ⌝ }
+        ≡ firstOrder (lawOfPanjerWillmot alpha_0 alpha_1 beta_0 beta_1) ⌝ }
 {
     hand_over(
         published::panjer_willmot(alpha_0, alpha_1, beta_0, beta_1),
@@ -61,7 +61,7 @@ pub extern "C" fn claimtotals_law_hesselager(
     b: &mut i64,
 ) -> u64
     ensures { λ r. ⌜ tellsLaw (returned r 0) (now (divisor .exit)) (now (a .exit)) (now (b .exit))
-        ≡ firstOrder (hesselager b_0 b_1 a_0 a_1) ⌝ }
+        ≡ firstOrder (lawOfHesselager b_0 b_1 a_0 a_1) ⌝ }
 {
     hand_over(published::hesselager(b_0, b_1, a_0, a_1), divisor, a, b)
 }

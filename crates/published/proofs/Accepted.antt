@@ -16,12 +16,12 @@ use Rattle.algebra.proofs.Table.{same-integer}
 use Rattle.model.specs.Answer.{Answer, accepted, firstOf}
 use Rattle.model.specs.Limits.{beyond}
 use Rattle.model.proofs.Answer.{none-holds}
-use Rattle.published.specs.Call.{Made, turn, turnedLaw, wrongLimits, checks, made, lawOfLine}
+use Rattle.published.specs.Call.{Made, turn, turnedLaw, wrongLaw, checks, unlessRefused, lawOfLine}
 
 pub law-is : (constant D A B : ℤ) {answer : Answer} → firstOf (checks constant D A B) ≡ answer
-    → lawOfLine constant D A B ≡ made answer (turnedLaw D A B)
+    → lawOfLine constant D A B ≡ unlessRefused answer (turnedLaw D A B)
 unfolding lawOfLine
-law-is constant D A B e = ap (λ (a : Answer). made a (turnedLaw D A B)) e
+law-is constant D A B e = ap (λ (a : Answer). unlessRefused a (turnedLaw D A B)) e
 
 -- ---- what is turned
 pub turn-size : (D z : ℤ) → natAbs (turn D z) ≡ natAbs z
@@ -41,13 +41,14 @@ size-pos (pos (suc n)) e = omega arith
 size-pos (negsuc n) e = omega arith
 
 -- 53, before the turn
-pub limits-are : (D A B : ℤ) → sameInteger D (pos 0) ≡ false → (beyond 1000 D || (beyond 1000 A || beyond 1000 B)) ≡ wrongLimits D A B
+pub limits-are : (D A B : ℤ) → sameInteger D (pos 0) ≡ false → (beyond 1000 D || (beyond 1000 A || beyond 1000 B)) ≡ wrongLaw D A B
 limits-are D A B e = rw (turn-size D D, turn-size D A, turn-size D B, le-ltb (natAbs D) 1 (size-pos D e))
 
 -- ---- after an acceptance
 pub record LineAccepted (constant D A B : ℤ) : Type 0 where
   pub no-constant : constant ≡ pos 0
   pub divisor-pos : 1 ≤ natAbs (turn D D)
+  pub within : wrongLaw D A B ≡ false
   pub law-made : lawOfLine constant D A B .law ≡ turnedLaw D A B
 
 pub line-accepted : (constant D A B : ℤ) → lawOfLine constant D A B .answer ≡ accepted → LineAccepted constant D A B
@@ -56,6 +57,7 @@ line-accepted constant D A B e =
     let fails = none-holds (checks constant D A B) [] tt e .0 in record {
       no-constant = same-integer constant (pos 0) (not-not (sameInteger constant (pos 0)) (fails 51));
       divisor-pos = rw (turn-size D D) (size-pos D (fails 52));
+      within = fails 53;
       law-made = ap (λ (m : Made). m .law) (law-is constant D A B e);
     }
   where

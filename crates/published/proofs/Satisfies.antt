@@ -20,41 +20,41 @@ use Rattle.exact.specs.Severity.{Severity, density, convolution}
 use Rattle.exact.specs.Amount.{exactAmount}
 use Rattle.exact.specs.JobAmount.{frequency}
 use Rattle.exact.proofs.Frequency.{count-equations}
-use Rattle.published.specs.Call.{firstTerm, turn, lawOfLine}
+use Rattle.published.specs.Call.{lawOfTerm, turn, lawOfLine}
 use Rattle.published.specs.Line.{Follows}
-use Rattle.published.specs.Satisfies.{coefficient, DivisorPositive}
-use Rattle.published.specs.Satisfies.{SatisfiesPanjerWillmot, SatisfiesHesselager, OnlyLaw, OwnTotals}
+use Rattle.published.specs.Satisfies.{countCoefficientOf, ownAmount, DivisorPositive}
+use Rattle.published.specs.Satisfies.{SatisfiesPanjerWillmot, SatisfiesHesselager, OnlyLaw, OwnAmounts}
 use Rattle.published.proofs.Accepted.{LineAccepted, line-accepted}
-use Rattle.published.proofs.Steps.{Steps, steps-cong, law-steps, steps-unique}
+use Rattle.published.proofs.Steps.{Steps, before, steps-cong, law-steps, steps-unique}
 use Rattle.published.proofs.Turn.{Sides, to-steps, from-steps}
 open Semiring ℚ using (carrier as Q, 𝟙, _·_)
 
 infixl 7 _·_
 -- a law with these numbers, however it is written
-of-law : (D : ℕ) (A B : ℤ) (law : Law) → law ≡ firstTerm 1 D A B → (h : 1 ≤ law .divisor) (p : Q)
+of-law : (D : ℕ) (A B : ℤ) (law : Law) → law ≡ lawOfTerm 1 D A B → (h : 1 ≤ law .divisor) (p : Q)
     → Steps D A B (λ n. p · value (countCoefficient (frequency law h) n))
 of-law D A B law e = subst
     (λ (l : Law). (h : 1 ≤ l .divisor) (p : Q) → Steps D A B (λ n. p · value (countCoefficient (frequency l h) n)))
     (sym e) (λ h p. law-steps D A B h p)
 
 positive : (constant D A B : ℤ) → lawOfLine constant D A B .answer ≡ accepted → 1 ≤ lawOfLine constant D A B .law .divisor
-positive constant D A B e = let k = line-accepted constant D A B e in rw (k .law-made) (k .divisor-pos)
+positive constant D A B e = let ok = line-accepted constant D A B e in rw (ok .law-made) (ok .divisor-pos)
 
 -- ---- every form of the line
 module _ (constant D A B : ℤ) (left right : ℕ → ℤ) (sides : constant ≡ pos 0 → Sides D A B left right)
     (e : lawOfLine constant D A B .answer ≡ accepted) where
-  k : LineAccepted constant D A B
-  k = line-accepted constant D A B e
+  ok : LineAccepted constant D A B
+  ok = line-accepted constant D A B e
 
   s : Sides D A B left right
-  s = sides (k .no-constant)
+  s = sides (ok .no-constant)
 
   module _ (h : 1 ≤ lawOfLine constant D A B .law .divisor) where
     abbrev P : ℕ → Fraction
-    P = coefficient (lawOfLine constant D A B) h
+    P = countCoefficientOf (lawOfLine constant D A B) h
 
     multiple-steps : (p : Q) → Steps (natAbs (turn D D)) (turn D A) (turn D B) (λ n. p · value (P n))
-    multiple-steps = of-law (natAbs (turn D D)) (turn D A) (turn D B) (lawOfLine constant D A B .law) (k .law-made) h
+    multiple-steps = of-law (natAbs (turn D D)) (turn D A) (turn D B) (lawOfLine constant D A B .law) (ok .law-made) h
 
     P-steps : Steps (natAbs (turn D D)) (turn D A) (turn D B) (λ n. value (P n))
     P-steps = steps-cong (natAbs (turn D D)) (turn D A) (turn D B) (λ n. one-mul ℚ (value (P n))) (multiple-steps 𝟙)
@@ -68,17 +68,17 @@ module _ (constant D A B : ℤ) (left right : ℕ → ℤ) (sides : constant ≡
 
     module _ (p : ℕ → Fraction) (f : Follows left right p) where
       value-determined : (n : ℕ) → value (p n) ≡ value (p 0) · value (P n)
-      value-determined = steps-unique (natAbs (turn D D)) (turn D A) (turn D B) (k .divisor-pos) (λ n. value (p n)) (λ n. value (P n))
+      value-determined = steps-unique (natAbs (turn D D)) (turn D A) (turn D B) (ok .divisor-pos) (λ n. value (p n)) (λ n. value (P n))
           (to-steps D A B left right s p f) P-steps
           (ap value (count-equations (frequency (lawOfLine constant D A B .law) h) .0) ∙ value-one)
 
       pub determined : (n : ℕ) → p n ≈ p 0 ⊗ P n
       determined n = eq-of-value (value-determined n ∙ sym (value-times (p 0) (P n)))
 
-      pub same-totals : (table : Severity) (x : ℕ) → zeroTo x (λ n. p n ⊗ convolution (density table) n x)
+      pub same-amounts : (table : Severity) (x : ℕ) → ownAmount p table x
           ≈ exactAmount (frequency (lawOfLine constant D A B .law) h) table (p 0) x
       unfolding exactAmount
-      same-totals table x = eq-of-value (value-zeroTo x (λ n. p n ⊗ at n) ∙ sum-cong ℚ (suc x) (λ n l. each n)
+      same-amounts table x = eq-of-value (value-zeroTo x (λ n. p n ⊗ at n) ∙ sum-cong ℚ (suc x) (λ n l. each n)
           ∙ sym (value-times (p 0) (zeroTo x (λ n. P n ⊗ at n)) ∙ ap (λ (v : Q). value (p 0) · v) (value-zeroTo x (λ n. P n ⊗ at n))
           ∙ sum-scale ℚ (suc x) (value (p 0)) (λ n. value (P n ⊗ at n))))
         where
@@ -104,13 +104,10 @@ panjer-willmot-sides α₀ α₁ β₀ β₁ e = record {
 }
   where
     right-is : (n : ℕ) → β₀ +ℤ β₁ *ℤ pos (suc n - 1) ≡ β₁ *ℤ pos (suc n) +ℤ (β₀ -ℤ β₁)
-    right-is n = ap (λ (m : ℕ). β₀ +ℤ β₁ *ℤ pos m) before ∙ solve integers (β₀ ∷ β₁ ∷ pos n ∷ [])
+    right-is n = ap (λ (m : ℕ). β₀ +ℤ β₁ *ℤ pos m) (before n) ∙ solve integers (β₀ ∷ β₁ ∷ pos n ∷ [])
         (var 0 :+ var 1 :* var 2) (var 1 :* (var 2 :+ unit) :+ (var 0 :+ :- var 1)) tt
         ∙ ap (λ (m : ℕ). β₁ *ℤ pos m +ℤ (β₀ -ℤ β₁)) after
       where
-        before : suc n - 1 ≡ n
-        before = omega arith
-
         after : n + 1 ≡ suc n
         after = omega arith
 
@@ -132,8 +129,8 @@ only-law = (
   (λ b₀ b₁ a₀ a₁. determined b₀ b₁ a₁ a₀ _ _ (hesselager-sides b₀ b₁ a₀ a₁)),
 )
 
-pub own-totals : OwnTotals
-own-totals = (
-  (λ α₀ α₁ β₀ β₁. same-totals α₀ α₁ β₁ _ _ _ (panjer-willmot-sides α₀ α₁ β₀ β₁)),
-  (λ b₀ b₁ a₀ a₁. same-totals b₀ b₁ a₁ a₀ _ _ (hesselager-sides b₀ b₁ a₀ a₁)),
+pub own-amounts : OwnAmounts
+own-amounts = (
+  (λ α₀ α₁ β₀ β₁. same-amounts α₀ α₁ β₁ _ _ _ (panjer-willmot-sides α₀ α₁ β₀ β₁)),
+  (λ b₀ b₁ a₀ a₁. same-amounts b₀ b₁ a₁ a₀ _ _ (hesselager-sides b₀ b₁ a₀ a₁)),
 )

@@ -17,13 +17,16 @@ use Rattle.algebra.proofs.Value.{order, ℚ, value, value-over}
 use Rattle.exact.specs.Frequency.{Frequency, a, b, countCoefficient}
 use Rattle.exact.specs.JobAmount.{frequency}
 use Rattle.exact.proofs.Frequency.{count-class}
-use Rattle.published.specs.Call.{firstTerm}
+use Rattle.published.specs.Call.{lawOfTerm}
 open Semiring ℚ using (carrier as Q, 𝟘, 𝟙, _⊹_, _·_)
 
 infixl 6 _⊹_
 infixl 7 _·_
 abbrev pub Steps : ℕ → ℤ → ℤ → (ℕ → Q) → Type 0
 Steps D A B v = (n : ℕ) → nat ℚ (D * suc n) · v (suc n) ≡ int (order .ring) (A *ℤ pos (suc n) +ℤ B) · v n
+
+pub before : (n : ℕ) → suc n - 1 ≡ n
+before n = omega arith
 
 -- the same sequence, written otherwise
 pub steps-cong : (D : ℕ) (A B : ℤ) {v w : ℕ → Q} → ((n : ℕ) → v n ≡ w n) → Steps D A B v → Steps D A B w
@@ -33,7 +36,7 @@ steps-cong D A B e s n = ap (λ (u : Q). nat ℚ (D * suc n) · u) (sym (e (suc 
 -- ---- the count coefficients
 module _ (D : ℕ) (A B : ℤ) (h : 1 ≤ D) where
   abbrev law : Frequency
-  law = frequency (firstTerm 1 D A B) h
+  law = frequency (lawOfTerm 1 D A B) h
 
   -- a and b, times D
   scaled-a : nat ℚ D · value (a law 1) ≡ int (order .ring) A
@@ -53,7 +56,7 @@ module _ (D : ℕ) (A B : ℤ) (h : 1 ≤ D) where
   pub law-steps : (p : Q) → Steps D A B (λ n. p · value (countCoefficient law n))
   law-steps p n =
       ap (λ (v : Q). v · member (suc n)) (nat-mul ℚ D (suc n)) ∙ ℚ .mul-assoc (nat ℚ D) (nat ℚ (suc n)) (member (suc n))
-      ∙ ap (λ (v : Q). nat ℚ D · v) (count-class law p n ∙ one-term _ n ∙ ap (λ (m : ℕ). sides · member m) before)
+      ∙ ap (λ (v : Q). nat ℚ D · v) (count-class law p n ∙ one-term _ n ∙ ap (λ (m : ℕ). sides · member m) (before n))
       ∙ spread (nat ℚ D) (nat ℚ (suc n)) (value (a law 1)) (value (b law 1)) (member n)
       ∙ ap (λ (v : Q). v · member n) (ap₂ (λ (u v : Q). u · nat ℚ (suc n) ⊹ v) scaled-a scaled-b ∙ sym factor)
     where
@@ -62,9 +65,6 @@ module _ (D : ℕ) (A B : ℤ) (h : 1 ≤ D) where
 
       sides : Q
       sides = nat ℚ (suc n) · value (a law 1) ⊹ value (b law 1)
-
-      before : suc n - 1 ≡ n
-      before = omega arith
 
       spread : (d m u v c : Q) → d · ((m · u ⊹ v) · c) ≡ (d · u · m ⊹ d · v) · c
       spread d m u v c = simp ring

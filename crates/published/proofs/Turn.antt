@@ -1,10 +1,9 @@
--- Turning signs: it goes through sums and products, and an equation whose two sides are both turned is the same equation, so that a
--- publication's line and that of the law made are one (`to-steps`, `from-steps`).
+-- Turning signs: it goes through sums and to one factor of a product, and an equation whose two sides are both turned is the same equation,
+-- so that a publication's line and that of the law made are one (`to-steps`, `from-steps`).
 use mathlib.Core.Path.{_≡_, refl, sym, _∙_, ap}
 use mathlib.Core.Bool.{Bool, true, false, cond}
 use Prim.Native.Nat.{ℕ, zero, suc, _*_, _-_}
 use native.Mathlib.Nat as NL
-use native.Mathlib.Omega.{arith}
 use lib.IntN.{ℤ, pos, negℤ, natAbs, _+ℤ_, _*ℤ_}
 use lib.Signed.{ltZ, yes-nonNeg, pos-natAbs}
 use Rattle.algebra.specs.Semiring.{Semiring, nat}
@@ -16,7 +15,7 @@ use Rattle.algebra.proofs.Value.{order, ℚ, value, value-eq, eq-of-value, valu
 use Rattle.published.specs.Call.{turn}
 use Rattle.published.specs.Line.{Follows}
 use Rattle.published.proofs.Accepted.{turn-nonneg}
-use Rattle.published.proofs.Steps.{Steps}
+use Rattle.published.proofs.Steps.{Steps, before}
 open Semiring ℚ using (carrier as Q, _·_)
 
 infixl 7 _·_
@@ -77,9 +76,6 @@ module _ (D A B : ℤ) (left right : ℕ → ℤ) (sides : Sides D A B left righ
 
   turned-right : (n : ℕ) → turn D (right (suc n)) ≡ turn D A *ℤ pos (suc n) +ℤ turn D B
   turned-right n = ap (turn D) (sides .right-is n) ∙ turn-right D A B (suc n)
-
-  before : (n : ℕ) → suc n - 1 ≡ n
-  before n = omega arith
 
   pub to-steps : Follows left right p → Steps (natAbs (turn D D)) (turn D A) (turn D B) (λ n. value (p n))
   to-steps f n =

@@ -30,52 +30,52 @@ pub record Made : Type 0 where
   pub answer : Answer
   pub law : Law
 
-abbrev pub told : Answer → Law → Made
-told answer law = record { answer = answer; law = law }
+abbrev pub answered : Answer → Law → Made
+answered answer law = record { answer = answer; law = law }
 
 -- what the paper says for each answer of the code
 abbrev pub paper : LawMade → Made
-paper made = told (answerOf (made .answer)) (made .law)
+paper made = answered (answerOf (made .answer)) (made .law)
 
 -- ---- "Turn either, of order 1, into our terms"
--- k, D, A_1 and B_1; "Terms past k are zero."
-abbrev pub firstTerm : (k D : ℕ) (A B : ℤ) → Law
-firstTerm k D A B = lawOf k D (A ∷ pos 0 ∷ pos 0 ∷ pos 0 ∷ []) (B ∷ pos 0 ∷ pos 0 ∷ pos 0 ∷ [])
+-- with k, D, A_1 and B_1; "Terms past k are zero."
+abbrev pub lawOfTerm : (k D : ℕ) (A B : ℤ) → Law
+lawOfTerm k D A B = lawOf k D (A ∷ pos 0 ∷ pos 0 ∷ pos 0 ∷ []) (B ∷ pos 0 ∷ pos 0 ∷ pos 0 ∷ [])
 
--- "all signs turned if D is negative": the sign of z
+-- "all signs turned if D is negative": z so
 abbrev pub turn : (D z : ℤ) → ℤ
 turn D z = cond (ltZ D (pos 0)) (negℤ z) z
 
--- "Nothing is reduced."
+-- "Nothing is reduced." Turned, D is 0 or more, so that it is its own size.
 abbrev pub turnedLaw : (D A B : ℤ) → Law
-turnedLaw D A B = firstTerm 1 (natAbs (turn D D)) (turn D A) (turn D B)
+turnedLaw D A B = lawOfTerm 1 (natAbs (turn D D)) (turn D A) (turn D B)
 
 -- ---- "It refuses with 51 a constant on the left that is not zero, then 52 a zero coefficient of n on the left, then 53 a D or term
 -- outside our limits."
-abbrev pub wrongLimits : (D A B : ℤ) → Bool
-wrongLimits D A B = outside 1 1000 (natAbs (turn D D)) || (beyond 1000 (turn D A) || beyond 1000 (turn D B))
+abbrev pub wrongLaw : (D A B : ℤ) → Bool
+wrongLaw D A B = outside 1 1000 (natAbs (turn D D)) || (beyond 1000 (turn D A) || beyond 1000 (turn D B))
 
 abbrev pub checks : (constant D A B : ℤ) → List Condition
 checks constant D A B =
     condition (not (sameInteger constant (pos 0))) 51 0
     ∷ condition (sameInteger D (pos 0)) 52 0
-    ∷ condition (wrongLimits D A B) 53 0
+    ∷ condition (wrongLaw D A B) 53 0
     ∷ []
 
 -- ---- the calls
 -- "the other numbers in its answer are 0" after a refusal
 abbrev pub noLaw : Law
-noLaw = firstTerm 0 0 (pos 0) (pos 0)
+noLaw = lawOfTerm 0 0 (pos 0) (pos 0)
 
-abbrev pub made : Answer → Law → Made
-made answer law = told answer (cond (isAccepted answer) law noLaw)
+abbrev pub unlessRefused : Answer → Law → Made
+unlessRefused answer law = answered answer (cond (isAccepted answer) law noLaw)
 
 unfoldable pub lawOfLine : (constant D A B : ℤ) → Made
-lawOfLine constant D A B = made (firstOf (checks constant D A B)) (turnedLaw D A B)
+lawOfLine constant D A B = unlessRefused (firstOf (checks constant D A B)) (turnedLaw D A B)
 
 -- "D is the coefficient of n on the left, A is β_1 or a_1, B is β_0 - β_1 or a_0"
-abbrev pub panjerWillmot : (α₀ α₁ β₀ β₁ : ℤ) → Made
-panjerWillmot α₀ α₁ β₀ β₁ = lawOfLine α₀ α₁ β₁ (β₀ -ℤ β₁)
+abbrev pub lawOfPanjerWillmot : (α₀ α₁ β₀ β₁ : ℤ) → Made
+lawOfPanjerWillmot α₀ α₁ β₀ β₁ = lawOfLine α₀ α₁ β₁ (β₀ -ℤ β₁)
 
-abbrev pub hesselager : (b₀ b₁ a₀ a₁ : ℤ) → Made
-hesselager b₀ b₁ a₀ a₁ = lawOfLine b₀ b₁ a₁ a₀
+abbrev pub lawOfHesselager : (b₀ b₁ a₀ a₁ : ℤ) → Made
+lawOfHesselager b₀ b₁ a₀ a₁ = lawOfLine b₀ b₁ a₁ a₀

@@ -10,8 +10,8 @@ ghost use lib.IntN.{ℤ, pos, natAbs, _-ℤ_};
 ghost use lib.Signed.{_≤ℤ_};
 ghost use Rattle.model.specs.Answer.{accepted, refused as refusedBy};
 ghost use Rattle.model.specs.Limits.{beyond};
-ghost use Rattle.published.specs.Call.{numberOf, told, paper, firstTerm, turnedLaw, noLaw};
-ghost use Rattle.published.specs.Call.{lawOfLine, panjerWillmot, hesselager};
+ghost use Rattle.published.specs.Call.{numberOf, answered, paper, lawOfTerm, turnedLaw, noLaw};
+ghost use Rattle.published.specs.Call.{lawOfLine, lawOfPanjerWillmot, lawOfHesselager};
 
 // Why a call refuses.
 pub enum Reason {
@@ -47,7 +47,7 @@ pub fn reason_number(reason: Reason) -> u64
 }
 
 fn refused(reason: Reason) -> LawMade
-    ensures { λ r. ⌜ paper r ≡ told (refusedBy (numberOf reason) 0) noLaw ⌝ }
+    ensures { λ r. ⌜ paper r ≡ answered (refusedBy (numberOf reason) 0) noLaw ⌝ }
 {
     let law = Law {
         order: 0,
@@ -64,7 +64,7 @@ fn refused(reason: Reason) -> LawMade
 // The law with these numbers.
 fn order_one(divisor: i64, a: i64, b: i64) -> LawMade
     requires { ⌜ pos 0 ≤ℤ divisor ⌝ }
-    ensures { λ r. ⌜ paper r ≡ told accepted (firstTerm 1 (natAbs divisor) a b) ⌝ }
+    ensures { λ r. ⌜ paper r ≡ answered accepted (lawOfTerm 1 (natAbs divisor) a b) ⌝ }
 {
     let law = Law {
         order: 1,
@@ -81,7 +81,7 @@ fn order_one(divisor: i64, a: i64, b: i64) -> LawMade
 // The same, with all signs turned where the divisor is negative.
 fn turned(divisor: i64, a: i64, b: i64) -> LawMade
     requires { ⌜ (natAbs divisor ≤ 1000) × (natAbs a ≤ 1000) × (natAbs b ≤ 1000) ⌝ }
-    ensures { λ r. ⌜ paper r ≡ told accepted (turnedLaw divisor a b) ⌝ }
+    ensures { λ r. ⌜ paper r ≡ answered accepted (turnedLaw divisor a b) ⌝ }
 {
     if divisor < 0 {
         return order_one(-divisor, -a, -b);
@@ -118,8 +118,8 @@ fn is_too_large(beta_0: i64, beta_1: i64) -> bool
     is_beyond(2000, beta_0) || is_beyond(1000, beta_1)
 }
 
-// The difference, as far as the law goes. Where a term lies outside the limits the difference may not fit, and a number stands for it that
-// is refused as well.
+// The difference, as far as the law goes. Where one of the two is too large the difference may not fit, and a number stands for it that is
+// refused as well.
 fn difference(beta_0: i64, beta_1: i64) -> i64
     ensures { λ r. ⌜ ((constant divisor : ℤ)
         → lawOfLine constant divisor beta_1 r ≡ lawOfLine constant divisor beta_1 (beta_0 -ℤ beta_1)) ⌝ }
@@ -132,14 +132,14 @@ fn difference(beta_0: i64, beta_1: i64) -> i64
 
 // The law of (alpha_0 + alpha_1 n) p_n = (beta_0 + beta_1 (n-1)) p_(n-1), which is how Panjer and Willmot write it.
 pub fn panjer_willmot(alpha_0: i64, alpha_1: i64, beta_0: i64, beta_1: i64) -> LawMade
-    ensures { λ r. ⌜ paper r ≡ panjerWillmot alpha_0 alpha_1 beta_0 beta_1 ⌝ }
+    ensures { λ r. ⌜ paper r ≡ lawOfPanjerWillmot alpha_0 alpha_1 beta_0 beta_1 ⌝ }
 {
     law_of_line(alpha_0, alpha_1, beta_1, difference(beta_0, beta_1))
 }
 
 // The law of (b_0 + b_1 n) p_n = (a_0 + a_1 n) p_(n-1), which is how Hesselager writes it.
 pub fn hesselager(b_0: i64, b_1: i64, a_0: i64, a_1: i64) -> LawMade
-    ensures { λ r. ⌜ paper r ≡ hesselager b_0 b_1 a_0 a_1 ⌝ }
+    ensures { λ r. ⌜ paper r ≡ lawOfHesselager b_0 b_1 a_0 a_1 ⌝ }
 {
     law_of_line(b_0, b_1, a_1, a_0)
 }

@@ -2,42 +2,51 @@
 -- within them, the first would be at most 2,000. And all terms outside the limits are refused alike.
 use borrow.Author.Needs.{needs}
 use borrow.Author.Tests.{le-ltb, ltb-false}
-use mathlib.Core.Path.{_≡_, refl, sym, _∙_}
+use mathlib.Core.Path.{_≡_, refl, sym, _∙_, ap}
 use mathlib.Core.Bool.{Bool, true, false, true≢false, not, _||_, cond}
+use mathlib.Core.List.{[]}
 use Prim.Native.Nat.{_+_, _≤_}
 use native.Mathlib.Omega.{arith}
 use lib.IntN.{ℤ, pos, negℤ, natAbs, _+ℤ_, _-ℤ_}
 use mir.Syntax.{w64}
 use mir.Val.{SFits}
 use mir.Facts.{toZ-ofZ}
-use Rattle.algebra.specs.Table.{sameInteger}
 use Rattle.algebra.proofs.Integer.{signed, split-add, split-neg}
 use Rattle.algebra.proofs.Or.{or-left, or-right, or-second}
 use Rattle.algebra.proofs.Size.{size-add, size-sub, size-fits}
-use Rattle.model.specs.Answer.{Answer, refused, firstOf}
+use Rattle.model.specs.Answer.{Answer, isAccepted, firstOf}
+use Rattle.model.proofs.Answer.{by-first}
 use Rattle.model.specs.Limits.{outside, beyond}
-use Rattle.published.specs.Call.{told, turn, turnedLaw, wrongLimits, noLaw, made, lawOfLine}
+use Rattle.published.specs.Call.{answered, turn, turnedLaw, wrongLaw, checks, noLaw, lawOfLine}
 use Rattle.published.proofs.Accepted.{turn-size}
 use Rattle.published.proofs.difference.Statement.{statement}
 use Rattle.published.proofs.difference.Tie as tie
 
 -- ---- a refusal that the terms do not change
--- 51, 52 or 53, by the first two tests
-refusal : (constant D : ℤ) → Answer
-refusal constant D = cond (not (sameInteger constant (pos 0))) (refused 51 0) (cond (sameInteger D (pos 0)) (refused 52 0) (refused 53 0))
+wrong-terms : (D A B : ℤ) → (beyond 1000 A || beyond 1000 B) ≡ true → wrongLaw D A B ≡ true
+wrong-terms D A B e = or-second (outside 1 1000 (natAbs (turn D D))) _ (rw (turn-size D A, turn-size D B) e)
 
-refused-law : (constant D A B : ℤ) → (beyond 1000 A || beyond 1000 B) ≡ true → lawOfLine constant D A B ≡ told (refusal constant D) noLaw
-unfolding lawOfLine firstOf refusal
-refused-law constant D A B e = rw wrong (by (not (sameInteger constant (pos 0))) (sameInteger D (pos 0)))
+not-accepted : (constant D A B : ℤ) → wrongLaw D A B ≡ true → isAccepted (firstOf (checks constant D A B)) ≡ false
+not-accepted constant D A B e =
+    by-first Refused _ 51 0 _ (λ _. refl)
+    (λ _. by-first Refused _ 52 0 _ (λ _. refl)
+    (λ _. by-first Refused _ 53 0 [] (λ _. refl) (λ f. absurd (true≢false (sym e ∙ f)))))
   where
-    wrong : wrongLimits D A B ≡ true
-    wrong = or-second (outside 1 1000 (natAbs (turn D D))) _ (rw (turn-size D A, turn-size D B) e)
+    Refused : Answer → Type 0
+    Refused answer = isAccepted answer ≡ false
 
-    by : (s t : Bool) → let answer = cond s (refused 51 0) (cond t (refused 52 0) (refused 53 0)) in
-        made answer (turnedLaw D A B) ≡ told answer noLaw
-    by true t = refl
-    by false true = refl
-    by false false = refl
+same-refusal : (constant D A B C : ℤ) → (beyond 1000 A || beyond 1000 B) ≡ true → (beyond 1000 A || beyond 1000 C) ≡ true
+    → lawOfLine constant D A B ≡ lawOfLine constant D A C
+unfolding lawOfLine
+same-refusal constant D A B C h k =
+    none B (wrong-terms D A B h) ∙ ap (λ (answer : Answer). answered answer noLaw) same ∙ sym (none C (wrong-terms D A C k))
+  where
+    none : (b : ℤ) → wrongLaw D A b ≡ true → lawOfLine constant D A b ≡ answered (firstOf (checks constant D A b)) noLaw
+    none b e = ap (λ (t : Bool). answered (firstOf (checks constant D A b)) (cond t (turnedLaw D A b) noLaw))
+        (not-accepted constant D A b e)
+
+    same : firstOf (checks constant D A B) ≡ firstOf (checks constant D A C)
+    same = rw (wrong-terms D A B h, wrong-terms D A C k) refl
 
 -- ---- sizes
 size-first : (a b : ℤ) → natAbs a ≤ natAbs (a -ℤ b) + natAbs b
@@ -72,9 +81,8 @@ test-is c = rw (toZ-ofZ (c .before .fits .beta-0), toZ-ofZ (c .before .fits .bet
 returns : tie.Need-returns
 returns c constant divisor =
     let a = c .before .before .args in
-    refused-law constant divisor (a .beta-1) (pos 1001) (or-second (beyond 1000 (a .beta-1)) true refl)
-    ∙ sym (refused-law constant divisor (a .beta-1) (a .beta-0 -ℤ a .beta-1)
-    (term-outside (a .beta-0) (a .beta-1) (sym (test-is (c .before)) ∙ c .if1 .taken)))
+    same-refusal constant divisor (a .beta-1) (pos 1001) (a .beta-0 -ℤ a .beta-1) (or-second (beyond 1000 (a .beta-1)) true refl)
+    (term-outside (a .beta-0) (a .beta-1) (sym (test-is (c .before)) ∙ c .if1 .taken))
 
 fits : (c : tie.Else1) → let a = c .before .before .args in SFits w64 (a .beta-0 -ℤ a .beta-1)
 fits c = let a = c .before .before .args in difference-fits (a .beta-0) (a .beta-1) (sym (test-is (c .before)) ∙ c .if1 .left)

@@ -1,5 +1,5 @@
 -- The divisor is zero or more, so it is itself as a number without a sign.
-use borrow.Author.Needs.{needs}
+use mathlib.Core.Path.{refl}
 use native.Mathlib.Omega.{arith}
 use lib.IntN.{ℤ, pos, negsuc, natAbs}
 use lib.Signed.{_≤ℤ_, yes-nonNeg}
@@ -18,5 +18,10 @@ cast-t5 c =
     let f = c .fits .divisor in
     rw (toZ-ofZ f) (yes-nonNeg (c .pre), room (c .args .divisor) (c .pre) f)
 
+returns : tie.Need-returns
+returns c =
+    let f = c .fits in
+    rw (toZ-ofZ (f .divisor), toZ-ofZ (f .a), toZ-ofZ (f .b)) refl
+
 pub order-one-spec : {M : Type 1} → statement M
-order-one-spec = tie.close (tie.spec cast-t5 (λ c. search needs))
+order-one-spec = tie.close (tie.spec cast-t5 returns)
