@@ -67,8 +67,9 @@ uint64_t claimtotals_start_trials(uint64_t upper, uint64_t lower, uint64_t trial
    alpha_0, alpha_1, beta_0, beta_1
                  the line's own numbers, whole; where it has fractions, all four times their common denominator
    divisor, a, b
-                 the law, one number each: D, A_1 and B_1. For claimtotals_curve its order is 1, and A_2 to A_4 and B_2 to B_4 are 0. D is
-                 alpha_1, A_1 is beta_1 and B_1 is beta_0 - beta_1, all signs turned where alpha_1 is negative. Nothing is reduced
+                 the law, one number each: D, A_1 and B_1. For claimtotals_curve its order is 1, and A_2 to A_4 and B_2 to B_4 are 0:
+                 where a and b are the first places of two arrays of four zeros, that call takes these. D is alpha_1, A_1 is beta_1 and
+                 B_1 is beta_0 - beta_1, all signs turned where alpha_1 is negative. Nothing is reduced
 
    0    accepted
    51   the constant on the left of the line is not 0
@@ -94,7 +95,8 @@ uint64_t claimtotals_law_panjer_willmot(int64_t alpha_0, int64_t alpha_1, int64_
    52   the coefficient of n on the left of the line is 0
    53   the divisor D is not 1 to 1,000, or a term, A or B, is not from -1,000 to 1,000
 
-   After a refusal all three are 0. */
+   After a refusal all three are 0. What the call cannot see: a line whose further coefficients (b_2, a_2) are left out is that of another
+   law. */
 uint64_t claimtotals_law_hesselager(int64_t b_0, int64_t b_1, int64_t a_0, int64_t a_1, uint64_t *divisor, int64_t *a, int64_t *b);
 
 /* The curve of a job: low, high and bound of each total from 0 to X.

@@ -211,9 +211,9 @@ def add_start(commands: argparse._SubParsersAction) -> None:
         "claims is (1-q)^shape; Panjer and Willmot write p for it. Texts that write p for 1-q differ: give 1-p.",
         "--mean 37/10", "--chance 1/20 --trials 30")
     laws = parser.add_mutually_exclusive_group(required=True)
-    laws.add_argument("--mean", metavar="R/S", type=fraction, help="as 37/10, 4 or 3.7, which is 37/10; at most 20")
-    laws.add_argument("--chance", metavar="R/S", type=fraction, help="as 1/20, or 0.05, which is 5/100; below 1")
-    parser.add_argument("--trials", metavar="N", type=count, help="how many, 1 to 1,000; or a negative binomial law's shape")
+    laws.add_argument("--mean", action=Once, metavar="R/S", type=fraction, help="as 37/10, 4 or 3.7, which is 37/10; at most 20")
+    laws.add_argument("--chance", action=Once, metavar="R/S", type=fraction, help="as 1/20, or 0.05, which is 5/100; below 1")
+    parser.add_argument("--trials", action=Once, metavar="N", type=count, help="how many, 1 to 1,000; or a negative binomial law's shape")
     parser.set_defaults(about=law_name, wrong=trials_alone)
 
 

@@ -33,7 +33,7 @@ class Law(NamedTuple):
 
 def coefficient(name: str, number: int) -> int:
     """A number of a line."""
-    return whole(name, number, SIGNED, "multiply all four numbers by the same number, so that they are whole")
+    return whole(name, number, SIGNED, "multiply all four numbers by the same number where they are not whole, and give each as an int")
 
 
 def law_of_line(name: str, **given: int) -> Law:
@@ -45,7 +45,8 @@ def law_of_line(name: str, **given: int) -> Law:
 def law_panjer_willmot(alpha_0: int, alpha_1: int, beta_0: int, beta_1: int) -> Law:
     """The law of (alpha_0 + alpha_1 n) p_n = (beta_0 + beta_1 (n-1)) p_(n-1), the line of Panjer and Willmot, for n from 1 on. Where the
     numbers are fractions, all four are given times the same number; nothing is reduced. Refused where alpha_0 is not 0, where alpha_1 is 0,
-    or where the divisor would be above 1,000 or a term not from -1,000 to 1,000.
+    or where the divisor would be above 1,000 or a term not from -1,000 to 1,000. What it cannot see: the authors print N - p as the beta_0
+    of a binomial law, where Np is meant, and a line whose alpha_2 or beta_2 is left out is that of another law.
 
     >>> print(law_panjer_willmot(0, 9, 12, -1).lines())
     LAW 1 9
@@ -56,7 +57,8 @@ def law_panjer_willmot(alpha_0: int, alpha_1: int, beta_0: int, beta_1: int) -> 
 
 def law_hesselager(b_0: int, b_1: int, a_0: int, a_1: int) -> Law:
     """The law of (b_0 + b_1 n) p_n = (a_0 + a_1 n) p_(n-1), the line of Hesselager, for n from 1 on. The numbers of the left come first.
-    They are given and refused as those of Panjer and Willmot's line are.
+    They are given and refused as those of Panjer and Willmot's line are; a line whose b_2 or a_2 is left out is that of another law here
+    too.
 
     >>> law_hesselager(0, 9, 13, -1)
     Law(divisor=9, a=-1, b=13)

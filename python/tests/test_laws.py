@@ -154,6 +154,12 @@ class Named(unittest.TestCase):
         self.assertEqual(law, (9, -1, 120))
         self.assertNotEqual(law, law_panjer_willmot(0, 9, 12, -1))
 
+    def test_geometric(self):
+        """As the remedy of 51 has it: n p_n = c n p_(n-1)."""
+        for c in Fraction(1, 2), Fraction(9, 10):
+            self.check((0, 1, c, c), lambda n: c ** n)
+            self.assertEqual(law_hesselager(*whole_numbers(0, 1, 0, c)), law_panjer_willmot(*whole_numbers(0, 1, c, c)))
+
     def test_negative_binomial(self):
         for shape, p in (1, Fraction(1, 2)), (3, Fraction(1, 3)), (3, Fraction(10, 11)), (Fraction(5, 2), Fraction(1, 2)):
             self.check((0, 1, p * shape, p), lambda n: math.prod(shape + i for i in range(n)) / Fraction(math.factorial(n)) * p ** n)
@@ -215,7 +221,7 @@ class Refusals(unittest.TestCase):
                 self.assertEqual(law_hesselager(0, left, b, 0), (1, 0, left * b))
 
     def test_difference(self):
-        """beta_0 itself has no limit, and 64 bits need not hold the difference."""
+        """beta_0 has no limit of its own, and 64 bits need not hold the difference."""
         self.assertEqual(law_panjer_willmot(0, 1, 2000, 1000), (1, 1000, 1000))
         self.assertEqual(law_panjer_willmot(0, 1, -2000, -1000), (1, -1000, -1000))
         self.assertEqual(law_panjer_willmot(0, -1, -500, 500), (1, -500, 1000))

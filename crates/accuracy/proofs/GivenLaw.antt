@@ -3,10 +3,10 @@
 use mathlib.Core.Path.{_≡_, refl, sym, _∙_, ap, subst}
 use mathlib.Core.Bool.{Bool, true, false, true≢false, not, _||_, cond}
 use mathlib.Core.List.{List, [], _∷_}
-use Prim.Native.Nat.{ℕ}
+use Prim.Native.Nat.{ℕ, _≤_}
 use lib.Dec.{T, ltb}
 use lib.IntN.{ℤ, natAbs}
-use Rattle.algebra.specs.Fraction.{Fraction}
+use Rattle.algebra.specs.Fraction.{Fraction, _≈_}
 use Rattle.algebra.specs.Smallest.{smallest}
 use Rattle.algebra.specs.Table.{every}
 use Rattle.algebra.proofs.Or.{or-yes, or-no, or-second}
@@ -17,9 +17,10 @@ use Rattle.model.specs.declared.Job.{Job}
 use Rattle.model.specs.Answer.{Answer, Condition, accepted, firstOf}
 use Rattle.model.specs.Limits.{mostOrder, outside, beyond}
 use Rattle.model.proofs.Answer.{by-first, first-none}
-use Rattle.exact.specs.JobAmount.{severity}
+use Rattle.exact.specs.Amount.{exactAmount}
+use Rattle.exact.specs.JobAmount.{frequency, severity}
 use Rattle.published.specs.Call.{Made, turn, turnedLaw, wrongLaw, lawOfLine}
-use Rattle.published.specs.Satisfies.{SameAmounts}
+use Rattle.published.specs.Satisfies.{ownAmount, SameAmounts}
 use Rattle.published.proofs.Accepted.{line-accepted}
 use Rattle.published.proofs.Satisfies.{own-amounts}
 use Rattle.rows.specs.Layout.{Lent}
@@ -29,8 +30,10 @@ use Rattle.accuracy.proofs.Accuracy.{encloses}
 
 -- ---- the customer's own sequence
 own : (made : Made) (Line : (ℕ → Fraction) → Type 0) → SameAmounts made Line → EnclosesOwn made Line
-own made Line amounts job weights lent ok e p line (low, high) d x l =
-    let same = subst (λ (m : Made). SameAmounts m Line) e amounts refl (d .divisor-pos) p line (severity weights (d .total-pos)) x in
+own made Line amounts a job weights lent ok e p line (low, high) d x l =
+    let table = severity weights (d .total-pos) in
+    let same = subst (λ (law : Law). (h : 1 ≤ law .divisor) → ownAmount p table x ≈ exactAmount (frequency law h) table (p 0) x)
+    (sym e) (λ h. amounts a h p line table x) (d .divisor-pos) in
     of-within _ _ _ (subst (Within _ _) (sym (value-eq same)) (within-value _ _ _ (encloses job weights lent ok d x l (p 0) low high)))
 
 pub encloses-published : EnclosesPublished

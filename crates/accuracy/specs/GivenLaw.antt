@@ -10,7 +10,7 @@ use Rattle.model.specs.declared.Job.{Job}
 use Rattle.model.specs.Answer.{accepted}
 use Rattle.model.specs.Limits.{outside}
 use Rattle.exact.specs.JobAmount.{Divisible, severity}
-use Rattle.published.specs.Call.{Made, answered, turnedLaw, wrongLaw}
+use Rattle.published.specs.Call.{Made, turnedLaw, wrongLaw}
 use Rattle.published.specs.Satisfies.{ownAmount, OfBoth}
 use Rattle.rows.specs.Layout.{Lent}
 use Rattle.compound.specs.Call.{curveAnswer}
@@ -19,7 +19,8 @@ use Rattle.accuracy.specs.Accuracy.{Accepted, shown}
 -- a job with the law made: for every sequence with the customer's line, in units, that begins within the start, the amount at each total
 -- lies from low to high
 abbrev pub EnclosesOwn : Made → ((ℕ → Fraction) → Type 0) → Type 0
-EnclosesOwn made Line = (job : Job) (weights : List ℕ) (lent : Lent) → Accepted job weights lent → made ≡ answered accepted (job .law)
+EnclosesOwn made Line = made .answer ≡ accepted
+    → (job : Job) (weights : List ℕ) (lent : Lent) → Accepted job weights lent → job .law ≡ made .law
     → (p : ℕ → Fraction) → Line p → Between (pos (job .start .low)) (pos (job .start .high)) (p 0)
     → (d : Divisible job weights) (x : ℕ) → x ≤ job .last
     → Between (shown job weights lent x .low) (shown job weights lent x .high) (ownAmount p (severity weights (d .total-pos)) x)
@@ -31,8 +32,8 @@ EnclosesPublished = OfBoth EnclosesOwn
 abbrev pub lawRefused : Job → List ℕ → Lent → Bool
 lawRefused job weights lent = not (outside 1 3 (curveAnswer job weights lent .number))
 
--- "outside our limits": the condition of 53 holds of D, A and B where the curve refuses the law that is made of them, whatever the rest of
--- the job is
+-- "outside our limits": the condition of 53 holds of D, A and B exactly where the curve refuses the law with these numbers, signs turned,
+-- whatever the rest of the job is
 abbrev pub SameLimits : Type 0
 SameLimits = (D A B : ℤ) (job : Job) (weights : List ℕ) (lent : Lent) → job .law ≡ turnedLaw D A B
     → wrongLaw D A B ≡ lawRefused job weights lent

@@ -1,10 +1,11 @@
 -- Each form's sides are those of a line with D, A and B once its constant is 0 (`hesselager-sides`, `panjer-willmot-sides`). What holds of
 -- the line of order 1 then holds of the publication's own.
-use mathlib.Core.Path.{_≡_, sym, _∙_, ap, subst}
+use mathlib.Core.Path.{_≡_, refl, sym, _∙_, ap, subst}
 use mathlib.Core.List.{[], _∷_}
 use Prim.Native.Nat.{ℕ, suc, _+_, _-_, _≤_}
 use native.Mathlib.Omega.{arith}
 use lib.IntN.{ℤ, pos, natAbs, _+ℤ_, _-ℤ_, _*ℤ_, +ℤ-comm, +ℤ-idl}
+use lib.ListN.{getD}
 use Rattle.algebra.specs.Semiring.{Semiring}
 use Rattle.algebra.specs.Fraction.{Fraction, _⊗_, zeroTo, _≈_}
 use Rattle.algebra.specs.Solver.{var, unit, _:+_, _:*_, :-_}
@@ -22,7 +23,7 @@ use Rattle.exact.specs.JobAmount.{frequency}
 use Rattle.exact.proofs.Frequency.{count-equations}
 use Rattle.published.specs.Call.{lawOfTerm, turn, lawOfLine}
 use Rattle.published.specs.Line.{Follows}
-use Rattle.published.specs.Satisfies.{countCoefficientOf, ownAmount, DivisorPositive}
+use Rattle.published.specs.Satisfies.{countCoefficientOf, ownAmount, DivisorPositive, OrderOne}
 use Rattle.published.specs.Satisfies.{SatisfiesPanjerWillmot, SatisfiesHesselager, OnlyLaw, OwnAmounts}
 use Rattle.published.proofs.Accepted.{LineAccepted, line-accepted}
 use Rattle.published.proofs.Steps.{Steps, before, steps-cong, law-steps, steps-unique}
@@ -37,8 +38,15 @@ of-law D A B law e = subst
     (λ (l : Law). (h : 1 ≤ l .divisor) (p : Q) → Steps D A B (λ n. p · value (countCoefficient (frequency l h) n)))
     (sym e) (λ h p. law-steps D A B h p)
 
+-- order 1, and nothing but D, A_1 and B_1
+abbrev OneTerm : Law → Type 0
+OneTerm law = law ≡ lawOfTerm 1 (law .divisor) (getD (law .a) 0 (pos 0)) (getD (law .b) 0 (pos 0))
+
 positive : (constant D A B : ℤ) → lawOfLine constant D A B .answer ≡ accepted → 1 ≤ lawOfLine constant D A B .law .divisor
 positive constant D A B e = let ok = line-accepted constant D A B e in rw (ok .law-made) (ok .divisor-pos)
+
+all-of-it : (constant D A B : ℤ) → lawOfLine constant D A B .answer ≡ accepted → OneTerm (lawOfLine constant D A B .law)
+all-of-it constant D A B e = subst OneTerm (sym (line-accepted constant D A B e .law-made)) refl
 
 -- ---- every form of the line
 module _ (constant D A B : ℤ) (left right : ℕ → ℤ) (sides : constant ≡ pos 0 → Sides D A B left right)
@@ -112,10 +120,10 @@ panjer-willmot-sides α₀ α₁ β₀ β₁ e = record {
         after = omega arith
 
 pub divisor-positive : DivisorPositive
-divisor-positive = (
-  (λ α₀ α₁ β₀ β₁. positive α₀ α₁ β₁ _),
-  (λ b₀ b₁ a₀ a₁. positive b₀ b₁ a₁ a₀),
-)
+divisor-positive = ((λ α₀ α₁ β₀ β₁. positive α₀ α₁ β₁ _), (λ b₀ b₁ a₀ a₁. positive b₀ b₁ a₁ a₀))
+
+pub order-one : OrderOne
+order-one = ((λ α₀ α₁ β₀ β₁. all-of-it α₀ α₁ β₁ _), (λ b₀ b₁ a₀ a₁. all-of-it b₀ b₁ a₁ a₀))
 
 pub satisfies-panjer-willmot : SatisfiesPanjerWillmot
 satisfies-panjer-willmot α₀ α₁ β₀ β₁ = satisfied α₀ α₁ β₁ _ _ _ (panjer-willmot-sides α₀ α₁ β₀ β₁)

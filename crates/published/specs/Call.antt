@@ -42,7 +42,7 @@ paper made = answered (answerOf (made .answer)) (made .law)
 abbrev pub lawOfTerm : (k D : ℕ) (A B : ℤ) → Law
 lawOfTerm k D A B = lawOf k D (A ∷ pos 0 ∷ pos 0 ∷ pos 0 ∷ []) (B ∷ pos 0 ∷ pos 0 ∷ pos 0 ∷ [])
 
--- "all signs turned if D is negative": z so
+-- "all signs turned if D is negative": z, its sign turned then
 abbrev pub turn : (D z : ℤ) → ℤ
 turn D z = cond (ltZ D (pos 0)) (negℤ z) z
 

@@ -1,14 +1,15 @@
 -- What is promised of a law that is made, where P_0, P_1, .. are its count coefficients, as the exact calculation has them.
 use mathlib.Core.Path.{_≡_}
 use Prim.Native.Nat.{ℕ, _≤_}
-use lib.IntN.{ℤ}
+use lib.IntN.{ℤ, pos}
+use lib.ListN.{getD}
 use Rattle.algebra.specs.Fraction.{Fraction, _⊗_, zeroTo, _≈_}
 use Rattle.model.specs.Answer.{accepted}
 use Rattle.exact.specs.Frequency.{countCoefficient}
 use Rattle.exact.specs.Severity.{Severity, density, convolution}
 use Rattle.exact.specs.Amount.{exactAmount}
 use Rattle.exact.specs.JobAmount.{frequency}
-use Rattle.published.specs.Call.{Made, lawOfPanjerWillmot, lawOfHesselager}
+use Rattle.published.specs.Call.{Made, lawOfTerm, lawOfPanjerWillmot, lawOfHesselager}
 use Rattle.published.specs.Line.{PanjerWillmotLine, HesselagerLine}
 
 -- P_n of the law made
@@ -45,6 +46,11 @@ OfBoth Claim = ((α₀ α₁ β₀ β₁ : ℤ) → Claim (lawOfPanjerWillmot α
 -- the law has a divisor that is not 0
 abbrev pub DivisorPositive : Type 0
 DivisorPositive = OfBoth (λ made _. made .answer ≡ accepted → 1 ≤ made .law .divisor)
+
+-- the law is of order 1, and D, A_1 and B_1 are all of it
+abbrev pub OrderOne : Type 0
+OrderOne = OfBoth (λ made _. made .answer ≡ accepted
+    → made .law ≡ lawOfTerm 1 (made .law .divisor) (getD (made .law .a) 0 (pos 0)) (getD (made .law .b) 0 (pos 0)))
 
 abbrev pub SatisfiesPanjerWillmot : Type 0
 SatisfiesPanjerWillmot = (α₀ α₁ β₀ β₁ : ℤ) → Satisfies (lawOfPanjerWillmot α₀ α₁ β₀ β₁) (PanjerWillmotLine α₀ α₁ β₀ β₁)

@@ -1,4 +1,4 @@
-// A law of order 1 from the line that a publication has for it. Every number is taken, and refused as the paper lists it.
+// A law of order 1 from the line that a publication has for it. The numbers may have any content: the calls refuse what the paper lists.
 
 use model::Law;
 use model::limits::is_beyond;
@@ -89,6 +89,7 @@ fn turned(divisor: i64, a: i64, b: i64) -> LawMade
     order_one(divisor, a, b)
 }
 
+// 53, looked at before the signs are turned: sizes stay, and the least number of 64 bits has no negative.
 fn is_wrong_law(divisor: i64, a: i64, b: i64) -> bool
     ensures { λ r. ⌜ r ≡ (beyond 1000 divisor || (beyond 1000 a || beyond 1000 b)) ⌝ }
 {
