@@ -112,20 +112,13 @@ fn law_of_line(constant: i64, divisor: i64, a: i64, b: i64) -> LawMade
     turned(divisor, a, b)
 }
 
-// Whether one of the two is so large that a term lies outside the limits, be it the second or the difference.
-fn is_too_large(beta_0: i64, beta_1: i64) -> bool
-    ensures { λ r. ⌜ r ≡ (beyond 2000 beta_0 || beyond 1000 beta_1) ⌝ }
-{
-    is_beyond(2000, beta_0) || is_beyond(1000, beta_1)
-}
-
-// The difference, as far as the law goes. Where one of the two is too large the difference may not fit, and a number stands for it that is
-// refused as well.
+// The difference, as far as the law goes. Where one of the two is above 2,000 in size, the second or the difference lies outside the
+// limits; the difference may not fit then, and a number stands for it that is refused as well.
 fn difference(beta_0: i64, beta_1: i64) -> i64
     ensures { λ r. ⌜ ((constant divisor : ℤ)
         → lawOfLine constant divisor beta_1 r ≡ lawOfLine constant divisor beta_1 (beta_0 -ℤ beta_1)) ⌝ }
 {
-    if is_too_large(beta_0, beta_1) {
+    if is_either_beyond(2000, beta_0, beta_1) {
         return 1001;
     }
     beta_0 - beta_1

@@ -1,5 +1,5 @@
--- Where neither number is too large the difference fits. Else a term lies outside the limits: were the second number and the difference
--- within them, the first would be at most 2,000. And all terms outside the limits are refused alike.
+-- Where neither number is above 2,000 in size the difference fits. Else a term lies outside the limits: were the second number and the
+-- difference within them, the first would be at most 2,000. And all terms outside the limits are refused alike.
 use borrow.Author.Needs.{needs}
 use borrow.Author.Tests.{le-ltb, ltb-false}
 use mathlib.Core.Path.{_≡_, refl, sym, _∙_, ap}
@@ -55,28 +55,28 @@ size-first a b = rw back at (size-add (a -ℤ b) b)
     back : a -ℤ b +ℤ b ≡ a
     back = omega (signed, split-add (a -ℤ b) b, split-add a (negℤ b), split-neg b .0, split-neg b .1)
 
-term-outside : (x y : ℤ) → (beyond 2000 x || beyond 1000 y) ≡ true → (beyond 1000 y || beyond 1000 (x -ℤ y)) ≡ true
+term-outside : (x y : ℤ) → (beyond 2000 x || beyond 2000 y) ≡ true → (beyond 1000 y || beyond 1000 (x -ℤ y)) ≡ true
 term-outside x y e = by (beyond 1000 y || beyond 1000 (x -ℤ y)) refl
   where
     by : (t : Bool) → (beyond 1000 y || beyond 1000 (x -ℤ y)) ≡ t → t ≡ true
     by true k = refl
     by false k =
-        let fails = or-left (beyond 1000 y) (beyond 1000 (x -ℤ y)) k in
-        let second = ltb-false 1000 (natAbs y) fails in
+        let second = ltb-false 1000 (natAbs y) (or-left (beyond 1000 y) (beyond 1000 (x -ℤ y)) k) in
         let less = ltb-false 1000 (natAbs (x -ℤ y)) (or-right (beyond 1000 y) (beyond 1000 (x -ℤ y)) k) in
-        let first = le-ltb 2000 (natAbs x) (omega (arith, size-first x y)) in
-        absurd (true≢false (rw (first, fails) at (sym e)))
+        let first-passes = le-ltb 2000 (natAbs x) (omega (arith, size-first x y)) in
+        let second-passes = le-ltb 2000 (natAbs y) (omega arith) in
+        absurd (true≢false (rw (first-passes, second-passes) at (sym e)))
 
-difference-fits : (x y : ℤ) → (beyond 2000 x || beyond 1000 y) ≡ false → SFits w64 (x -ℤ y)
+difference-fits : (x y : ℤ) → (beyond 2000 x || beyond 2000 y) ≡ false → SFits w64 (x -ℤ y)
 difference-fits x y e =
-    let first = ltb-false 2000 (natAbs x) (or-left (beyond 2000 x) (beyond 1000 y) e) in
-    let second = ltb-false 1000 (natAbs y) (or-right (beyond 2000 x) (beyond 1000 y) e) in
+    let first = ltb-false 2000 (natAbs x) (or-left (beyond 2000 x) (beyond 2000 y) e) in
+    let second = ltb-false 2000 (natAbs y) (or-right (beyond 2000 x) (beyond 2000 y) e) in
     size-fits w64 (x -ℤ y) (omega (arith, size-sub x y))
 
 -- ---- the function
-test-is : (c : tie.After-is-too-large) → let a = c .before .args in
-    c .is-too-large .result ≡ (beyond 2000 (a .beta-0) || beyond 1000 (a .beta-1))
-test-is c = rw (toZ-ofZ (c .before .fits .beta-0), toZ-ofZ (c .before .fits .beta-1)) at (c .is-too-large .ensures)
+test-is : (c : tie.After-is-either-beyond) → let a = c .before .args in
+    c .is-either-beyond .result ≡ (beyond 2000 (a .beta-0) || beyond 2000 (a .beta-1))
+test-is c = rw (toZ-ofZ (c .before .fits .beta-0), toZ-ofZ (c .before .fits .beta-1)) at (c .is-either-beyond .ensures)
 
 returns : tie.Need-returns
 returns c constant divisor =
