@@ -8,9 +8,9 @@ use Rattle.model.specs.declared.Law.{Law}
 use Rattle.model.specs.declared.Job.{Job}
 use Rattle.model.specs.Job.{jobOf}
 use Rattle.exact.specs.JobAmount.{Divisible}
-use Rattle.outward.specs.Division.{ceilDiv}
 use Rattle.enclosure.specs.declared.Entry.{Entry}
-use Rattle.enclosure.specs.Entry.{none, plus, scaled, allowance, rounded}
+use Rattle.enclosure.specs.Entry.{none, plus, scaled, rounded}
+use Rattle.enclosure.proofs.Rounded.{bound-alone}
 use Rattle.rows.specs.Curve.{factor, firstEntry, sumsZero, sumsNext, entryAt, curveRows}
 use Rattle.rows.proofs.Recursion.{curve-rule}
 use Rattle.rows.proofs.Preserved.{Preserved, Follows, divisors-pos, all-preserved}
@@ -23,10 +23,6 @@ same-scaled : (z : ℤ) (e f : Entry) → SameBound e f → SameBound (scaled z 
 unfolding scaled
 same-scaled z e f p = ap (λ (b : ℤ). pos (natAbs z) *ℤ b) p
 
-same-rounded : (d : ℕ) (e f : Entry) → SameBound e f → SameBound (rounded d e) (rounded d f)
-unfolding rounded
-same-rounded d e f p = ap (λ (b : ℤ). ceilDiv b d +ℤ allowance d) p
-
 abbrev same-bound : Preserved Entry SameBound
 same-bound = record {
   nought = none;
@@ -36,7 +32,7 @@ same-bound = record {
   by-none = refl;
   by-plus = λ _ _ _ _ p q. ap₂ _+ℤ_ p q;
   by-scaled = same-scaled;
-  by-rounded = λ d e s f _ p q. subst (SameBound (rounded d e)) (sym q) (same-rounded d e s p);
+  by-rounded = λ d e s f _ p q. subst (SameBound (rounded d e)) (sym q) (bound-alone d e s p);
 }
 
 module _ (job job′ : Job) (weights : List ℕ) (same-gap : gap (job .start) ≡ gap (job′ .start)) where

@@ -12,6 +12,7 @@ use Rattle.outward.specs.Division.{floorDiv, ceilDiv}
 use Rattle.outward.proofs.Division.{floor-is, ceil-is}
 use Rattle.enclosure.specs.declared.Entry.{Entry}
 use Rattle.enclosure.specs.Entry.{plus, scaled, allowance, rounded}
+use Rattle.enclosure.proofs.Rounded.{allowance-above, divided-by-one}
 use Rattle.rows.specs.Curve.{firstEntry, curveRows}
 use Rattle.rows.proofs.Preserved.{PreservedAlone, divisors-pos, all-entries}
 
@@ -55,10 +56,11 @@ narrow-scaled (negsuc n) e w = of-parts (scaled (negsuc n) e) (omega (
   split-mul (pos (suc n)) (e .bound),
 ))
 
--- each end is moved by less than 1, and the gap of two integers grows by at most the allowance
-narrow-rounded : (d : ℕ) (e : Entry) → 1 ≤ d → Narrow e → Narrow (rounded d e)
+-- each end is moved by less than 1, so that the gap of two integers grows by at most 1, which is allowed where the divisor is above 1
+narrow-above : (d : ℕ) (e : Entry) → 1 < d → Narrow e → Narrow (rounded d e)
 unfolding rounded
-narrow-rounded d e l w = of-parts (rounded d e) (omega (arith, split-add bound (allowance d), NL.lt-of-mul-lt-mul-left d multiplied))
+narrow-above d e l w =
+    of-parts (rounded d e) (omega (signed, split-add bound (allowance d), allowance-above d l, NL.lt-of-mul-lt-mul-left d multiplied))
   where
     low : ℤ
     low = floorDiv (e .low) d
@@ -69,19 +71,28 @@ narrow-rounded d e l w = of-parts (rounded d e) (omega (arith, split-add bound (
     bound : ℤ
     bound = ceilDiv (e .bound) d
 
+    least : 1 ≤ d
+    least = omega arith
+
     multiplied : d * (up high + (down low + down bound)) < d * (up low + up bound + 2 + down high)
     multiplied = omega (
       signed,
       parts e w,
-      floor-is (e .low) d l .1,
-      ceil-is (e .high) d l .1,
-      ceil-is (e .bound) d l .0,
+      floor-is (e .low) d least .1,
+      ceil-is (e .high) d least .1,
+      ceil-is (e .bound) d least .0,
       split-add (pos d *ℤ low) (pos d),
       split-add (e .high) (pos d),
       split-mul (pos d) low,
       split-mul (pos d) high,
       split-mul (pos d) bound,
     )
+
+-- divided by 1, an entry stays as it is
+narrow-rounded : (d : ℕ) (e : Entry) → 1 ≤ d → Narrow e → Narrow (rounded d e)
+narrow-rounded zero e l w = absurd (NL.not-le-of-lt l (NL.le-refl 0))
+narrow-rounded (suc zero) e l w = rw (divided-by-one e) w
+narrow-rounded (suc (suc d)) e l w = narrow-above (suc (suc d)) e (omega arith) w
 
 -- ---- all entries
 abbrev narrowing : PreservedAlone Narrow

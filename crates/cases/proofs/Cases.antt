@@ -18,7 +18,7 @@ use Rattle.outward.specs.Division.{floorDiv, ceilDiv}
 use Rattle.start.specs.Step.{times, repeated}
 use Rattle.start.specs.Call.{Started, term, series, ofMean, ofTrials, startOfMean, startOfTrials}
 use Rattle.published.specs.Call.{Made, lawOfLine, lawOfPanjerWillmot, lawOfHesselager}
-use Rattle.enclosure.specs.Entry.{scaled, rounded}
+use Rattle.enclosure.specs.Entry.{scaled, allowance, rounded}
 use Rattle.rows.specs.Curve.{factor, sumsZero, sumsNext, entryAt, withNext, history, curveRows}
 use Rattle.rows.specs.Layout.{Lent, lentRows}
 use Rattle.rows.specs.Faults.{firstFault, rangeFault}
@@ -166,7 +166,7 @@ sound (program s text) t = same-bytes (reportText s) (ascii text) t
 
 pub cases-hold : CasesHold
 unfolding curveAnswer curveLent rowAfter rangeFault firstFault curveRows history withNext entryAt sumsNext sumsZero divisorZero factor
-    rounded scaled
+    allowance rounded scaled
     firstOf ceilDiv floorDiv accumulate smallest listed
     reading lawLine termLines startLine lastLine severityLine weightLines line allNumbers firstNoNumber firstPart
     number valueFrom words longer afterLines before after has

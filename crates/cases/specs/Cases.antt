@@ -161,40 +161,66 @@ lawP2 = law 1 1 (negℤ (pos 1) ∷ []) (pos 3 ∷ [])
 abbrev startP2 : Start
 startP2 = startOf 250000000 250000000
 
--- "Lows and highs 250000000, 500000000, 250000000, 0, 0; bounds 0, 1, 2, 1, 2."
-abbrev rowsP2 : (X : ℕ) → Lent
-rowsP2 = holding
+-- "Lows and highs 250000000, 500000000, 250000000, 0, 0"
+abbrev rowsP2 : (bounds : List ℕ) (X : ℕ) → Lent
+rowsP2 bounds = holding
     (map pos (250000000 ∷ 500000000 ∷ 250000000 ∷ 0 ∷ 0 ∷ []))
     (map pos (250000000 ∷ 500000000 ∷ 250000000 ∷ 0 ∷ 0 ∷ []))
-    (map pos (0 ∷ 1 ∷ 2 ∷ 1 ∷ 2 ∷ []))
+    (map pos bounds)
+
+-- P4: "A 0 0, B 0 1, start 400000001 twice"
+abbrev lawP4 : Law
+lawP4 = law 2 1 (pos 0 ∷ pos 0 ∷ []) (pos 0 ∷ pos 1 ∷ [])
+
+abbrev startP4 : Start
+startP4 = startOf 400000001 400000001
+
+-- P6: "D 1, A 0, B 1, start 0 and U"
+abbrev lawP6 : Law
+lawP6 = law 1 1 (pos 0 ∷ []) (pos 1 ∷ [])
+
+abbrev startP6 : Start
+startP6 = startOf 0 1000000000
 
 abbrev pub cases : List Case
 cases =
     -- P1: "the job above", that of the sheet
     call jobP1 (1 ∷ 1 ∷ []) accepted rowsP1
-    -- P2: "X 4"
-    ∷ row lawP2 startP2 4 (1 ∷ []) accepted rowsP2
+    -- P2: "X 4"; "P2's bounds become 0, 0, 1, 1, 2"
+    ∷ row lawP2 startP2 4 (1 ∷ []) accepted (rowsP2 (0 ∷ 0 ∷ 1 ∷ 1 ∷ 2 ∷ []))
     -- P3: "At 1: low -1, high 0, bound 2."
     ∷ row (law 1 2 (negℤ (pos 1) ∷ []) (pos 0 ∷ [])) (startOf 1 2) 1 (1 ∷ []) accepted
     (holding (pos 1 ∷ negℤ (pos 1) ∷ []) (pos 2 ∷ pos 0 ∷ []) (pos 1 ∷ pos 2 ∷ []))
     -- "P3 with start 1 twice": "The rule gives low -1, high 0, bound 1."
     ∷ row (law 1 2 (negℤ (pos 1) ∷ []) (pos 0 ∷ [])) (startOf 1 1) 1 (1 ∷ []) accepted
     (holding (pos 1 ∷ negℤ (pos 1) ∷ []) (pos 1 ∷ pos 0 ∷ []) (pos 0 ∷ pos 1 ∷ []))
-    -- P4: "At 1: 0, 0, bound 1. At 2: 200000000, 200000001, bound 2."
-    ∷ row (law 2 1 (pos 0 ∷ pos 0 ∷ []) (pos 0 ∷ pos 1 ∷ [])) (startOf 400000001 400000001) 2 (1 ∷ []) accepted
+    -- P4: "At 1: 0, 0 .. At 2: 200000000, 200000001"; "P4's become 0, 0, 1"
+    ∷ row lawP4 startP4 2 (1 ∷ []) accepted
+    (holding (map pos (400000001 ∷ 0 ∷ 200000000 ∷ [])) (map pos (400000001 ∷ 0 ∷ 200000001 ∷ [])) (map pos (0 ∷ 0 ∷ 1 ∷ [])))
+    -- the same law with D 2, so that row 0's divisor is never 1 and row 1's is; then with W 2, so that neither is
+    ∷ row (law 2 2 (pos 0 ∷ pos 0 ∷ []) (pos 0 ∷ pos 2 ∷ [])) startP4 2 (1 ∷ []) accepted
+    (holding (map pos (400000001 ∷ 0 ∷ 200000000 ∷ [])) (map pos (400000001 ∷ 0 ∷ 200000001 ∷ [])) (map pos (0 ∷ 1 ∷ 1 ∷ [])))
+    ∷ row lawP4 startP4 2 (2 ∷ []) accepted
     (holding (map pos (400000001 ∷ 0 ∷ 200000000 ∷ [])) (map pos (400000001 ∷ 0 ∷ 200000001 ∷ [])) (map pos (0 ∷ 1 ∷ 2 ∷ [])))
+    -- the like of order 4, where what row 3 has at total 3 came through rows 1 and 2
+    ∷ row (law 4 2 [] (map pos (0 ∷ 0 ∷ 0 ∷ 4 ∷ []))) startP4 4 (1 ∷ []) accepted
+    (holding (map pos (400000001 ∷ 0 ∷ 0 ∷ 0 ∷ 200000000 ∷ [])) (map pos (400000001 ∷ 0 ∷ 0 ∷ 0 ∷ 200000001 ∷ []))
+    (map pos (0 ∷ 1 ∷ 1 ∷ 1 ∷ 1 ∷ [])))
     -- P5: "refusal 9 at 1"
     ∷ row (law 1 1 (pos 0 ∷ []) (pos 3 ∷ [])) (startOf 1000000000 1000000000) 1 (1 ∷ []) (refused 9 1) cleared
     -- "With B 2: accepted, 2U."
     ∷ row (law 1 1 (pos 0 ∷ []) (pos 2 ∷ [])) (startOf 1000000000 1000000000) 1 (1 ∷ []) accepted
-    (holding (map pos (1000000000 ∷ 2000000000 ∷ [])) (map pos (1000000000 ∷ 2000000000 ∷ [])) (map pos (0 ∷ 1 ∷ [])))
-    -- P6: "refusal 10 at 1"
-    ∷ row (law 1 1 (pos 0 ∷ []) (pos 1 ∷ [])) (startOf 0 1000000000) 1 (1 ∷ []) (refused 10 1) cleared
+    (holding (map pos (1000000000 ∷ 2000000000 ∷ [])) (map pos (1000000000 ∷ 2000000000 ∷ [])) (map pos (0 ∷ 0 ∷ [])))
+    -- P6: "X 1"; "P6 is now accepted with bound U"
+    ∷ row lawP6 startP6 1 (1 ∷ []) accepted
+    (holding (map pos (0 ∷ 0 ∷ [])) (map pos (1000000000 ∷ 1000000000 ∷ [])) (map pos (1000000000 ∷ 1000000000 ∷ [])))
+    -- "with weights 1 and 1 and B 2 it gives 10 at 1"
+    ∷ row (law 1 1 (pos 0 ∷ []) (pos 2 ∷ [])) startP6 1 (1 ∷ 1 ∷ []) (refused 10 1) cleared
     -- "With X 0: accepted."
-    ∷ row (law 1 1 (pos 0 ∷ []) (pos 1 ∷ [])) (startOf 0 1000000000) 0 (1 ∷ []) accepted
+    ∷ row lawP6 startP6 0 (1 ∷ []) accepted
     (holding (map pos (0 ∷ [])) (map pos (1000000000 ∷ [])) (map pos (1000000000 ∷ [])))
-    -- P7: "P2 with w(1) 1,000 is accepted; with 1,001 it gives 6."
-    ∷ row lawP2 startP2 4 (1000 ∷ []) accepted rowsP2
+    -- P7: "P2 with w(1) 1,000 is accepted; with 1,001 it gives 6."; the divisor is above 1 at total 1 too, although D is 1
+    ∷ row lawP2 startP2 4 (1000 ∷ []) accepted (rowsP2 (0 ∷ 1 ∷ 2 ∷ 1 ∷ 2 ∷ []))
     ∷ row lawP2 startP2 4 (1001 ∷ []) (refused 6 0) untouched
     -- P8: "P2 with X 501 gives 7."
     ∷ row lawP2 startP2 501 (1 ∷ []) (refused 7 0) untouched
@@ -205,9 +231,11 @@ cases =
     -- and the program writes P1's rows
     ∷ program (sheet "TERM 0 1" "W 1")
     "TOTAL LOW HIGH BOUND\n0 367879441 367879442 1\n1 183939720 183939721 2\n2 229924650 229924652 2\n3 99634015 99634016 2\n"
-    -- P3 and P6 as sheets: a low below zero, a job that the curve refuses
+    -- P3 and P6 as sheets: a low below zero, a job that the curve takes, and one that it refuses
     ∷ program (ascii "LAW 1 2\nTERM -1 0\nSTART 1 2\nLAST 1\nSEVERITY 1\nW 1\n") "TOTAL LOW HIGH BOUND\n0 1 2 1\n1 -1 0 2\n"
-    ∷ program (ascii "LAW 1 1\nTERM 0 1\nSTART 0 1000000000\nLAST 1\nSEVERITY 1\nW 1\n") "REFUSED 10 1\n"
+    ∷ program (ascii "LAW 1 1\nTERM 0 1\nSTART 0 1000000000\nLAST 1\nSEVERITY 1\nW 1\n")
+    "TOTAL LOW HIGH BOUND\n0 0 1000000000 1000000000\n1 0 1000000000 1000000000\n"
+    ∷ program (ascii "LAW 1 1\nTERM 0 2\nSTART 0 1000000000\nLAST 1\nSEVERITY 2\nW 1\nW 1\n") "REFUSED 10 1\n"
     -- P11: "the sheet above with `W 10n5` as its line 6 gives 24 at line 6 with the word `10n5`"
     ∷ refusal (sheet "TERM 0 1" "W 10n5") 24 6 "10n5" 63 4
     ∷ program (sheet "TERM 0 1" "W 10n5") "REFUSED 24 6\n"

@@ -1,5 +1,6 @@
--- Proofs that the functions share, bottom up: entries and their opposites, lines, sizes, raised sums, runs.
+-- Proofs that the functions share, bottom up: entries and their opposites, their division, lines, sizes, raised sums, runs.
 pub mod Scaled
+pub mod Rounded
 pub mod Line
 pub mod Sizes
 pub mod Lowered

@@ -1,6 +1,8 @@
 -- Entries of a row, and what the outward rule does with them.
-use mathlib.Core.Bool.{Bool, _||_}
+use mathlib.Core.Path.{_≡_}
+use mathlib.Core.Bool.{Bool, cond, _||_}
 use Prim.Native.Nat.{ℕ, _*_}
+use lib.Dec.{ltb}
 use lib.IntN.{ℤ, pos, negsuc, negℤ, natAbs, _+ℤ_, _*ℤ_}
 use lib.Signed.{ltZ}
 use mir.Syntax.{w64}
@@ -53,14 +55,23 @@ unfoldable pub scaled : ℤ → Entry → Entry
 scaled f e = record { low = lowPart f e; high = highPart f e; bound = boundPart f e }
 
 -- ---- division
--- what rounding may add to the gap, by the divisor: "plus one"
-abbrev pub allowance : ℕ → ℤ
-allowance d = pos 1
+-- what rounding may add to the gap: "Add the one only where the divisor is above 1", whether a remainder is left or not
+unfoldable pub allowance : ℕ → ℤ
+allowance d = cond (ltb 1 d) (pos 1) (pos 0)
 
 -- "Low is the low sum divided and rounded down, towards minus infinity. High is the high sum divided and rounded up. Each sum is divided
--- once. Bound is the sum of the factors' sizes times the entries' bounds, divided by the same divisor, rounded up, plus one."
+-- once. Bound is the sum of the factors' sizes times the entries' bounds, divided by the same divisor, rounded up, plus one.", which is
+-- the allowance
 unfoldable pub rounded : ℕ → Entry → Entry
 rounded d s = record { low = floorDiv (s .low) d; high = ceilDiv (s .high) d; bound = ceilDiv (s .bound) d +ℤ allowance d }
+
+-- divided by 1, sums stay as they are, and nothing is added to their bound: "no rounding, no allowance"
+abbrev pub DividedByOne : Type 0
+DividedByOne = (s : Entry) → rounded 1 s ≡ s
+
+-- the bound after a division comes from the bound's sum and the divisor, whatever low and high are
+abbrev pub BoundAlone : Type 0
+BoundAlone = (d : ℕ) (s s′ : Entry) → s .bound ≡ s′ .bound → rounded d s .bound ≡ rounded d s′ .bound
 
 -- ---- faults
 -- "a low or high .. lies outside -2U to 2U"

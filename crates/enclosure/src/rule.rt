@@ -12,7 +12,7 @@ ghost use mir.Syntax.{w64};
 ghost use mir.Val.{SFits};
 ghost use Rattle.model.specs.Limits.{beyond};
 ghost use Rattle.outward.specs.Division.{ceilDiv};
-ghost use Rattle.enclosure.specs.Entry.{none, plus, minus, rounded, outOfRange, boundTooLarge, EntryFits};
+ghost use Rattle.enclosure.specs.Entry.{none, plus, minus, allowance, rounded, outOfRange, boundTooLarge, EntryFits};
 
 // The sum of no entries.
 pub fn none() -> Entry
@@ -48,9 +48,16 @@ pub fn subtract(a: Entry, b: Entry) -> Entry
     }
 }
 
-// The sums divided once each, outward; the bound has one more for the rounding.
+// What rounding may add to the gap. Divided by 1, nothing is rounded.
+fn allowance(divisor: u64) -> i64
+    ensures { λ r. ⌜ r ≡ allowance divisor ⌝ }
+{
+    if 1 < divisor { 1 } else { 0 }
+}
+
+// The sums divided once each, outward; the bound also has the allowance.
 pub fn divide_sums(sums: Entry, divisor: u64) -> Entry
-    requires { ⌜ (1 ≤ divisor) × (divisor < 2 ^ 63) × SFits w64 (ceilDiv (sums .bound) divisor +ℤ pos 1) ⌝ }
+    requires { ⌜ (1 ≤ divisor) × (divisor < 2 ^ 63) × SFits w64 (ceilDiv (sums .bound) divisor +ℤ allowance divisor) ⌝ }
     ensures { λ r. ⌜ r ≡ rounded divisor sums ⌝ }
 {
     let ends = outward::divide(sums.low, sums.high, divisor);
@@ -58,7 +65,7 @@ pub fn divide_sums(sums: Entry, divisor: u64) -> Entry
     Entry {
         low: ends.low,
         high: ends.high,
-        bound: bound + 1,
+        bound: bound + allowance(divisor),
     }
 }
 

@@ -1,10 +1,10 @@
 -- The floor by the division with remainder of natural numbers, at each sign; the ceiling is the floor with the signs turned. Of natural
 -- numbers the ceiling is one too; and an interval is known by its two ends.
-use mathlib.Core.Path.{_≡_, refl}
+use mathlib.Core.Path.{_≡_, refl, _∙_, ap}
 use Prim.Native.Nat.{ℕ, zero, suc, _+_, _*_, _/_, _≤_, _<_, zero-le, suc-le-suc}
-use native.Mathlib.Nat.{mul-div-le, lt-mul-div-succ, div-le-self, zero-div}
+use native.Mathlib.Nat.{mul-div-le, lt-mul-div-succ, div-le-self, div-one, zero-div}
 use lib.Dec.{le→leb}
-use lib.IntN.{ℤ, pos, negsuc, negℤ, natAbs, _+ℤ_, _*ℤ_}
+use lib.IntN.{ℤ, pos, negsuc, negℤ, natAbs, _+ℤ_, _*ℤ_, negℤ-negℤ}
 use lib.Signed.{_≤ℤ_, _<ℤ_, leZ-yes}
 use Rattle.algebra.proofs.Integer.{integers, signed, split-add, split-mul, split-neg}
 use Rattle.algebra.proofs.Ring.{mul-neg}
@@ -48,6 +48,16 @@ unfolding ceilDiv floorDiv
 ceil-nonneg (pos zero) n h = rw (zero-div n) h
 ceil-nonneg (pos (suc a)) n h = leZ-yes (le→leb 0 (suc (a / n)) zero-le)
 ceil-nonneg (negsuc a) n h = absurd (h .le)
+
+-- by 1 nothing is rounded
+pub floor-one : (z : ℤ) → floorDiv z 1 ≡ z
+unfolding floorDiv
+floor-one (pos a) = ap pos (div-one a)
+floor-one (negsuc a) = ap negsuc (div-one a)
+
+pub ceil-one : (z : ℤ) → ceilDiv z 1 ≡ z
+unfolding ceilDiv
+ceil-one z = ap negℤ (floor-one (negℤ z)) ∙ negℤ-negℤ z
 
 -- ---- the ceiling of natural numbers
 unfoldable pub ceilℕ : ℕ → ℕ → ℕ

@@ -9,6 +9,7 @@ use Rattle.outward.specs.Division.{ceilDiv}
 use Rattle.outward.proofs.Division.{ceil-nonneg}
 use Rattle.enclosure.specs.declared.Entry.{Entry}
 use Rattle.enclosure.specs.Entry.{plus, scaled, allowance, rounded}
+use Rattle.enclosure.proofs.Rounded.{allowance-least}
 use Rattle.rows.specs.Curve.{firstEntry, curveRows}
 use Rattle.rows.specs.Limits.{Limits}
 use Rattle.rows.proofs.Preserved.{PreservedAlone, divisors-pos, all-entries}
@@ -25,7 +26,8 @@ nonneg-scaled z e p = *ℤ-nonneg (pos (natAbs z)) (e .bound) (omega signed) p
 
 nonneg-rounded : (d : ℕ) (e : Entry) → Nonneg e → Nonneg (rounded d e)
 unfolding rounded
-nonneg-rounded d e p = omega (signed, ceil-nonneg (e .bound) d p, split-add (ceilDiv (e .bound) d) (allowance d))
+nonneg-rounded d e p =
+    omega (signed, ceil-nonneg (e .bound) d p, allowance-least d, split-add (ceilDiv (e .bound) d) (allowance d))
 
 abbrev nonneg : PreservedAlone Nonneg
 nonneg = record {

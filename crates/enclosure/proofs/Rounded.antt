@@ -1,0 +1,50 @@
+-- Division of sums: the allowance is 0 or 1, so that a bound's quotient fits with it; by 1 nothing is rounded and nothing allowed.
+use mathlib.Core.Path.{_≡_, refl, ap}
+use mathlib.Core.Bool.{Bool, true, false, cond}
+use borrow.Author.Tests.{ltb-true, ltb-false}
+use Prim.Native.Nat.{ℕ, _≤_, _<_}
+use native.Mathlib.Nat as NL
+use native.Mathlib.Omega.{arith}
+use lib.Dec.{ltb}
+use lib.IntN.{ℤ, pos, natAbs, _+ℤ_, +ℤ-idr}
+use lib.Signed.{_≤ℤ_}
+use mir.Syntax.{w64}
+use mir.Val.{SFits}
+use Rattle.algebra.proofs.Integer.{signed}
+use Rattle.algebra.proofs.Size.{size-add, size-fits}
+use Rattle.outward.specs.Division.{ceilDiv}
+use Rattle.outward.proofs.Division.{ceil-size, floor-one, ceil-one}
+use Rattle.enclosure.specs.Entry.{allowance, rounded, DividedByOne, BoundAlone}
+use Rattle.enclosure.proofs.Scaled.{same-entry}
+
+-- ---- the allowance
+-- has a property that 0 has where the divisor is not above 1, and 1 where it is
+pub by-divisor : (P : ℤ → Type 0) (d : ℕ) → (d ≤ 1 → P (pos 0)) → (1 < d → P (pos 1)) → P (allowance d)
+unfolding allowance
+by-divisor P d at-one above = by (ltb 1 d) refl
+  where
+    by : (t : Bool) → ltb 1 d ≡ t → P (cond t (pos 1) (pos 0))
+    by true e = above (ltb-true 1 d e)
+    by false e = at-one (ltb-false 1 d e)
+
+pub allowance-above : (d : ℕ) → 1 < d → allowance d ≡ pos 1
+allowance-above d l = by-divisor (λ z. z ≡ pos 1) d (λ k. absurd (NL.not-le-of-lt l k)) (λ _. refl)
+
+pub allowance-least : (d : ℕ) → pos 0 ≤ℤ allowance d
+allowance-least d = by-divisor (λ z. pos 0 ≤ℤ z) d (λ _. omega signed) (λ _. omega signed)
+
+pub allowance-most : (d : ℕ) → natAbs (allowance d) ≤ 1
+allowance-most d = by-divisor (λ z. natAbs z ≤ 1) d (λ _. omega arith) (λ _. omega arith)
+
+pub quotient-fits : (z : ℤ) (d : ℕ) → natAbs z ≤ 4000000000000000000 → SFits w64 (ceilDiv z d +ℤ allowance d)
+quotient-fits z d h = size-fits w64 (ceilDiv z d +ℤ allowance d)
+    (omega (arith, size-add (ceilDiv z d) (allowance d), ceil-size z d, allowance-most d))
+
+-- ---- the quotients
+pub divided-by-one : DividedByOne
+unfolding rounded allowance
+divided-by-one s = same-entry (floor-one (s .low)) (ceil-one (s .high)) (rw (ceil-one (s .bound)) (+ℤ-idr (s .bound)))
+
+pub bound-alone : BoundAlone
+unfolding rounded
+bound-alone d s s′ p = ap (λ (b : ℤ). ceilDiv b d +ℤ allowance d) p
