@@ -23,8 +23,8 @@ extern "C" {
 #endif
 
 /* The version of this header, as a number, major * 10,000 + minor * 100 + patch, and as text. */
-#define CLAIMTOTALS_VERSION 300
-#define CLAIMTOTALS_VERSION_TEXT "0.3.0"
+#define CLAIMTOTALS_VERSION 400
+#define CLAIMTOTALS_VERSION_TEXT "0.4.0"
 
 #define CLAIMTOTALS_UNIT INT64_C(1000000000)
 

@@ -41,10 +41,10 @@ quotient-fits z d h = size-fits w64 (ceilDiv z d +ℤ allowance d)
     (omega (arith, size-add (ceilDiv z d) (allowance d), ceil-size z d, allowance-most d))
 
 -- ---- the quotients
-pub divided-by-one : DividedByOne
-unfolding rounded allowance
-divided-by-one s = same-entry (floor-one (s .low)) (ceil-one (s .high)) (rw (ceil-one (s .bound)) (+ℤ-idr (s .bound)))
-
 pub bound-alone : BoundAlone
 unfolding rounded
 bound-alone d s s′ p = ap (λ (b : ℤ). ceilDiv b d +ℤ allowance d) p
+
+pub divided-by-one : DividedByOne
+unfolding rounded allowance
+divided-by-one s = same-entry (floor-one (s .low)) (ceil-one (s .high)) (rw (ceil-one (s .bound)) (+ℤ-idr (s .bound)))

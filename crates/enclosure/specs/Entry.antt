@@ -65,13 +65,13 @@ allowance d = cond (ltb 1 d) (pos 1) (pos 0)
 unfoldable pub rounded : ℕ → Entry → Entry
 rounded d s = record { low = floorDiv (s .low) d; high = ceilDiv (s .high) d; bound = ceilDiv (s .bound) d +ℤ allowance d }
 
--- divided by 1, sums stay as they are, and nothing is added to their bound: "no rounding, no allowance"
-abbrev pub DividedByOne : Type 0
-DividedByOne = (s : Entry) → rounded 1 s ≡ s
-
 -- the bound after a division comes from the bound's sum and the divisor, whatever low and high are
 abbrev pub BoundAlone : Type 0
 BoundAlone = (d : ℕ) (s s′ : Entry) → s .bound ≡ s′ .bound → rounded d s .bound ≡ rounded d s′ .bound
+
+-- divided by 1, sums stay as they are, and nothing is added to their bound: "no rounding, no allowance"
+abbrev pub DividedByOne : Type 0
+DividedByOne = (s : Entry) → rounded 1 s ≡ s
 
 -- ---- faults
 -- "a low or high .. lies outside -2U to 2U"
