@@ -1,4 +1,4 @@
-"""The outward rule and the curve call as the paper says them, in Python's whole numbers."""
+"""The outward rule and the curve call as the paper and Wish 4 have them, in Python's whole numbers."""
 from dataclasses import dataclass
 
 from limits import LAST_TOTAL, MOST_BOUND, MOST_DIVISOR, MOST_END, MOST_ORDER, MOST_SUM, MOST_TERM, MOST_WEIGHTS, UNIT, WORK_COLUMNS
