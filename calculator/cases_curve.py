@@ -44,9 +44,10 @@ def one(divisor, a, b, low, high, last, weights=(1,)):
     return Job(1, divisor, four(a), four(b), low, high, list(weights), last)
 
 
-def no_claims(order, low, high, last):
-    """A law with no terms: row 0 is zero from total 1 on, and row j at total j has the start."""
-    return Job(order, 1, four(), four(), low, high, [1], last)
+def no_claims(order, low, high, last, weights=(2,)):
+    """A law with no terms: row 0 is zero from total 1 on. With one weight, of severity 1, row j at total j has the start; its bound is the
+    start's gap, and j ones where the weight is above 1."""
+    return Job(order, 1, four(), four(), low, high, list(weights), last)
 
 
 def needed(last):
@@ -57,7 +58,7 @@ def needed(last):
 P1 = one(1, 0, 1, 367879441, 367879442, 3, [1, 1])
 ROWS_P1 = Rows([367879441, 183939720, 229924650, 99634015], [367879442, 183939721, 229924652, 99634016], [1, 2, 2, 2])
 P2 = one(1, -1, 3, 250000000, 250000000, 4)
-ROWS_P2 = Rows([250000000, 500000000, 250000000, 0, 0], [250000000, 500000000, 250000000, 0, 0], [0, 1, 2, 1, 2])
+ROWS_P2 = Rows([250000000, 500000000, 250000000, 0, 0], [250000000, 500000000, 250000000, 0, 0], [0, 0, 1, 1, 2])
 
 
 def paper(**changed):
@@ -77,6 +78,7 @@ def single_term(side, i, value):
     return terms["A"], terms["B"]
 
 
+LAST_SIZE = [0] * 499 + [1]
 SIDES = [(side, i) for i in range(1, 5) for side in "AB"]
 
 PAPER = [
@@ -84,12 +86,13 @@ PAPER = [
     Case("P2", 0, 0, P2, exact.binomial(2, HALF), ROWS_P2),
     Case("P3", 0, 0, one(2, -1, 0, 1, 2, 1), exact.geometric(-HALF), Rows([1, -1], [2, 0], [1, 2])),
     Case("P4", 0, 0, Job(2, 1, four(), four(0, 1), 400000001, 400000001, [1], 2), exact.bunches(2, exact.poisson(HALF)),
-         Rows([400000001, 0, 200000000], [400000001, 0, 200000001], [0, 1, 2])),
+         Rows([400000001, 0, 200000000], [400000001, 0, 200000001], [0, 0, 1])),
     Case("P5", 9, 1, one(1, 0, 3, UNIT, UNIT, 1)),
-    Case("P5 with B 2", 0, 0, one(1, 0, 2, UNIT, UNIT, 1), exact.poisson(2), Rows([UNIT, 2 * UNIT], [UNIT, 2 * UNIT], [0, 1])),
-    Case("P6", 10, 1, one(1, 0, 1, 0, UNIT, 1)),
+    Case("P5 with B 2", 0, 0, one(1, 0, 2, UNIT, UNIT, 1), exact.poisson(2), Rows([UNIT, 2 * UNIT], [UNIT, 2 * UNIT], [0, 0])),
+    Case("P6", 0, 0, one(1, 0, 1, 0, UNIT, 1), exact.poisson(1), Rows([0, 0], [UNIT, UNIT], [UNIT, UNIT])),
+    Case("P6 with weights 1 and 1 and B 2", 10, 1, one(1, 0, 2, 0, UNIT, 1, [1, 1])),
     Case("P6 with X 0", 0, 0, one(1, 0, 1, 0, UNIT, 0), exact.poisson(1), Rows([0], [UNIT], [UNIT])),
-    Case("P7, w(1) 1,000", 0, 0, replace(P2, weights=[1000]), exact.binomial(2, HALF), ROWS_P2),
+    Case("P7, w(1) 1,000", 0, 0, replace(P2, weights=[1000]), exact.binomial(2, HALF), ROWS_P2._replace(bound=[0, 1, 2, 1, 2])),
     Case("P7, w(1) 1,001", 6, 0, replace(P2, weights=[1001])),
     Case("P8", 7, 0, replace(P2, last=501)),
     Case("also run: k 5", 1, 0, replace(P2, order=5)),
@@ -99,7 +102,7 @@ TEMPTING_AND_WRONG = [
     Case("rounded towards zero, low and high at 1 would be 0", 0, 0, one(2, -1, 0, 1, 1, 1), exact.geometric(-HALF),
          Rows([1, -1], [1, 0], [0, 1])),
     Case("with the low under a negative factor, low at 1 would be -10", 0, 0, one(1, -1, 0, 10, 20, 1), exact.geometric(-1),
-         Rows([10, -20], [20, -10], [10, 11])),
+         Rows([10, -20], [20, -10], [10, 10])),
     Case("each product rounded, high at 2 would be 2", 0, 0, one(1, 0, 1, 1, 1, 2, [1, 1]), exact.poisson(1),
          Rows([1, 0, 0], [1, 1, 1], [0, 1, 2])),
     Case("lows cut to 0 would lose -500 and -125", 0, 0, one(2, -1, 0, 1000, 1000, 3), exact.geometric(-HALF),
@@ -159,7 +162,7 @@ CHECKS = [
     # 6
     Case("W 0", 6, 0, paper(weights=[0])),
     Case("W 0 with 500 weights", 6, 0, paper(weights=[0] * 500)),
-    Case("W 1, the last of 500 weights", 0, 0, paper(weights=[0] * 499 + [1]), exact.poisson(1)),
+    Case("W 1, the last of 500 weights", 0, 0, paper(weights=LAST_SIZE), exact.poisson(1)),
     Case("W 1,000", 0, 0, paper(weights=[999, 1]), exact.poisson(1)),
     Case("W 1,001", 6, 0, paper(weights=[1000, 1])),
     Case("W 1,000 with 500 weights", 0, 0, paper(weights=[2] * 500), exact.poisson(1)),
@@ -211,11 +214,11 @@ ORDER = [
     *[Case(f"faults of {number} to 8 at once", number, 1 if number == 3 else 0, faulty_from(number), lent=(0, 0, 0, 0))
       for number in range(1, 9)],
     Case("8 and 9", 8, 0, one(1, 0, 3, UNIT, UNIT, 1), lent=(2, 2, 2, 17)),
-    Case("8 and 10", 8, 0, one(1, 0, 1, 0, UNIT, 1), lent=(1, 2, 2, 18)),
+    Case("8 and 10", 8, 0, one(1, 0, 2, 0, UNIT, 1, [1, 1]), lent=(1, 2, 2, 18)),
 ]
 
 # Row j >= 1 has averages of row j-1, rounded outwards to whole numbers, so that its lows and highs never are the first outside -2U to 2U;
-# its bounds can be the first above U.
+# its bounds can be the first above U where W is above 1. With W 1 they are 0 and bounds of row j-1 at earlier totals.
 RANGE_AND_BOUND = [
     # 9
     Case("2U", 0, 0, one(2, 0, 5, 800000000, 800000000, 1), exact.poisson(Fraction(5, 2))),
@@ -237,19 +240,35 @@ RANGE_AND_BOUND = [
     Case("the lowest terms", 9, 1, Job(4, 1, [-1000] * 4, [-1000] * 4, UNIT, UNIT, [1000], 500)),
 
     # 10
-    Case("a bound of U", 0, 0, one(1, 0, 1, 0, UNIT - 1, 1), exact.poisson(1)),
-    Case("a bound of U+1", 10, 1, one(1, 0, 2, 0, 500000000, 1)),
-    Case("10 at 30, as bounds double; lows and highs reach 9 at 31", 10, 30, one(1, 2, 0, 1, 1, 31)),
-    Case("10 at 30, the last total", 10, 30, one(1, 2, 0, 1, 1, 30), lent=needed(30)),
-    Case("and no 10 before it", 0, 0, one(1, 2, 0, 1, 1, 29), exact.geometric(2)),
-    Case("10 at 30, lows and highs of both signs", 10, 30, one(1, -2, 0, 1, 1, 31)),
+    Case("a bound of U, divisor 1", 0, 0, one(1, 0, 8, 0, 125000000, 1), exact.poisson(8),
+         Rows([0, 0], [125000000, UNIT], [125000000, UNIT])),
+    Case("a bound of U+1, divisor 1", 10, 1, one(1, 0, 7, 0, 142857143, 1)),
+    Case("a bound of U by the one", 0, 0, one(2, 0, 2, 0, UNIT - 1, 1), exact.poisson(1),
+         Rows([0, 0], [UNIT - 1, UNIT - 1], [UNIT - 1, UNIT])),
+    Case("a bound of U+1 by the one", 10, 1, one(2, 0, 2, 0, UNIT, 1)),
+    Case("a bound of U by the one, weights 1 and 1", 0, 0, one(1, 0, 2, 0, UNIT - 1, 1, [1, 1]), exact.poisson(2),
+         Rows([0, 0], [UNIT - 1, UNIT - 1], [UNIT - 1, UNIT])),
+    Case("10 at 2, after bounds of U at 0 and 1", 10, 2, one(1, 1, 0, 0, UNIT, 2)),
+    Case("10 at 3, after a bound of U at 2", 10, 3, one(1, 1, 0, 0, UNIT - 1, 3)),
+    Case("a bound of U at 2", 0, 0, one(1, 1, 0, 0, UNIT - 1, 2), exact.geometric(1),
+         Rows([0, 0, 0], [UNIT - 1] * 3, [UNIT - 1, UNIT - 1, UNIT])),
+    Case("10 at 30, as bounds double; lows and highs reach 9 at 31", 10, 30, one(2, 4, 0, 1, 1, 31)),
+    Case("10 at 30, the last total", 10, 30, one(2, 4, 0, 1, 1, 30), lent=needed(30)),
+    Case("and no 10 before it", 0, 0, one(2, 4, 0, 1, 1, 29), exact.geometric(2),
+         Rows([2 ** x for x in range(30)], [2 ** x for x in range(30)], [2 ** x - 1 for x in range(30)])),
+    Case("10 at 30, lows and highs of both signs", 10, 30, one(2, -4, 0, 1, 1, 31)),
+    Case("10 at 500, by the one", 10, 500, one(1, 0, 1, 0, UNIT, 500, LAST_SIZE)),
+    Case("a bound of U at 500", 0, 0, one(1, 0, 1, 0, UNIT - 1, 500, LAST_SIZE), exact.poisson(1),
+         Rows([0] * 501, [UNIT - 1, *[0] * 499, UNIT - 1], [UNIT - 1, 0, *[1] * 498, UNIT])),
 
     # both
     Case("9 and 10 at 1", 9, 1, one(1, 0, 3, 0, UNIT, 2)),
     Case("10 at 1, 9 at 2", 10, 1, one(1, 1, 1, 0, UNIT, 2)),
 
     # further rows
-    Case("10 in row 0 alone, of four", 10, 1, Job(4, 1, four(), four(2), 0, 500000000, [1], 2)),
+    Case("10 in row 0 alone, of four; row 1 has U", 10, 1, Job(4, 2, four(), four(2), 0, UNIT, [1], 2)),
+    Case("a bound of U in row 0, of four", 0, 0, Job(4, 2, four(), four(2), 1, UNIT, [1], 2), exact.poisson(1),
+         Rows([1, 1, 0], [UNIT, UNIT, 500000000], [UNIT - 1, UNIT, 500000001])),
     Case("10 in row 1 alone, of four", 10, 1, no_claims(4, 0, UNIT, 3)),
     Case("10 in row 1", 10, 1, no_claims(2, 0, UNIT, 3)),
     Case("and not without row 1", 0, 0, no_claims(1, 0, UNIT, 3), exact.finite()),
@@ -259,7 +278,87 @@ RANGE_AND_BOUND = [
     Case("10 in row 3", 10, 3, no_claims(4, 1, UNIT - 1, 3)),
     Case("10 in row 3, past the last total", 0, 0, no_claims(4, 1, UNIT - 1, 2), exact.finite()),
     Case("a bound of U in row 3", 0, 0, no_claims(4, 1, UNIT - 2, 3), exact.finite()),
-    Case("9 in row 0 and 10 in row 1", 9, 1, Job(2, 1, four(), four(3), 0, UNIT, [1], 2)),
+    Case("10 in row 1 at 2, with weights 1 and 1; row 0 has U at 1 and 2", 10, 2, Job(2, 1, four(-2), four(4), 0, UNIT - 1, [1, 1], 2)),
+    Case("bounds of U in row 0, with weights 1 and 1", 0, 0, one(1, -2, 4, 0, UNIT - 1, 2, [1, 1]), exact.finite(2),
+         Rows([0, 0, 0], [UNIT - 1] * 3, [UNIT - 1, UNIT, UNIT])),
+    Case("a bound of U in row 1, with weights 1 and 1", 0, 0, Job(2, 1, four(-2), four(4), 0, UNIT - 2, [1, 1], 2), exact.finite(2),
+         Rows([0, 0, 0], [UNIT - 2] * 3, [UNIT - 2, UNIT - 1, UNIT - 1])),
+    Case("10 in row 1 at 500", 10, 500, no_claims(2, 0, UNIT, 500, [0] * 499 + [2])),
+    Case("9 in row 0 and 10 in row 1", 9, 1, Job(2, 1, four(), four(3), 0, UNIT, [2], 2)),
+]
+
+
+def repeated(k, divisor, weight, bounds, name):
+    """All terms are 0 but A_k, which is D. Row 0 at total x is row k-1 at x-1, so that the start comes again at k; its bound is the bound
+    there, plus one where D times x times W is above 1."""
+    job = Job(k, divisor, four(*[0] * (k - 1), divisor), four(), 7, 9, [weight], k + 1)
+    low, high = ([start, *[0] * (k - 1), start, 0] for start in (7, 9))
+    return Case(f"k {k}, D {divisor}, W {weight}: {name}", 0, 0, job, exact.bunches(k, exact.geometric(1)), Rows(low, high, bounds))
+
+
+# Wish 4: the bound has the one where the divisor is above 1, be it by D, by x or by W, and only there.
+ALLOWANCE = [
+    # row 0 with D 1 and W 1: none at total 1
+    Case("with the one at 1, bounds at 1 and 2 would be 3; with none at 2, less than the gap", 0, 0, one(1, 0, 1, 7, 9, 2),
+         exact.poisson(1), Rows([7, 7, 3], [9, 9, 5], [2, 2, 2])),
+    Case("with the one at 1, it would be 10 at 1; the factor is -1", 0, 0, one(1, -1, 0, 0, UNIT, 1), exact.geometric(-1),
+         Rows([0, -UNIT], [UNIT, 0], [UNIT, UNIT])),
+    Case("with the one at 1, it would be 10 at 30, as bounds double; it is 9 and 10 at 31", 9, 31, one(1, 2, 0, 1, 1, 31)),
+    Case("with the one at 1, it would be 10 at 30, the last total", 0, 0, one(1, 2, 0, 1, 1, 30), exact.geometric(2),
+         Rows([2 ** x for x in range(31)], [2 ** x for x in range(31)], [0, *[2 ** (x - 1) - 1 for x in range(1, 31)]])),
+    Case("the 500th size alone: with the one at 1, the bound there would be 1", 0, 0, one(1, 0, 1, 7, 7, 500, LAST_SIZE), exact.poisson(1),
+         Rows([7, *[0] * 499, 7], [7, *[0] * 499, 7], [0, 0, *[1] * 499])),
+    Case("by the number of weights, the bound at 1 would be 1", 0, 0, one(1, 0, 1, 7, 9, 4, [0, 1]), exact.poisson(1),
+         Rows([7, 0, 7, 0, 3], [9, 0, 9, 0, 5], [2, 0, 3, 1, 3])),
+
+    # row 0 with a divisor above 1 by W alone, by D alone, by x alone
+    Case("D 1, W 2: by D, or D times x, the bound at 1 would be 1, less than the gap", 0, 0, one(1, 0, 1, 7, 9, 2, [1, 1]),
+         exact.poisson(1), Rows([7, 3, 4], [9, 5, 6], [2, 2, 3])),
+    Case("D 1, w(1) 2: by D, bounds at 1 and 2 would be 2 and 1; by D times x, 2 and 2", 0, 0, one(1, 0, 1, 7, 9, 2, [2]),
+         exact.poisson(1), Rows([7, 7, 3], [9, 9, 5], [2, 3, 3])),
+    Case("D 2, W 1: by W, bounds at 1 and 2 would be 2 and 1; by x times W, or with 2/2 made 1/1, 2 and 2", 0, 0, one(2, 0, 2, 7, 9, 2),
+         exact.poisson(1), Rows([7, 7, 3], [9, 9, 5], [2, 3, 3])),
+    Case("D 1, W 1: by D, W or both, bounds from 2 on would be 0", 0, 0, one(1, 1, 0, 9, 9, 4), exact.geometric(1),
+         Rows([9] * 5, [9] * 5, [0, 0, 1, 2, 3])),
+
+    # further rows: their divisor is W, in row 0 it is D times x times W
+    repeated(2, 1, 1, [2, 0, 3, 1], "by row 0's divisor, the bound at 3 would be 2"),
+    repeated(3, 1, 1, [2, 0, 1, 3, 1], "by row 0's divisor, bounds at 3 and 4 would be 4 and 3"),
+    repeated(4, 1, 1, [2, 0, 1, 1, 3, 1], "by row 0's divisor, bounds at 3, 4 and 5 would be 2, 5 and 4"),
+    repeated(2, 2, 1, [2, 1, 3, 2], "by D, or with the one in row 1, bounds would be those of W 2"),
+    repeated(3, 2, 1, [2, 1, 1, 3, 2], "by D, or with the one in rows 1 and 2, bounds would be those of W 2"),
+    repeated(4, 2, 1, [2, 1, 1, 1, 3, 2], "by D, or with the one in rows 1 to 3, bounds would be those of W 2"),
+    repeated(2, 1, 2, [2, 1, 4, 3], "without the one in row 1, bounds would be those of W 1 with D 2"),
+    repeated(3, 1, 2, [2, 1, 2, 5, 4], "without the one in rows 1 and 2, bounds would be those of W 1 with D 2"),
+    repeated(4, 1, 2, [2, 1, 2, 3, 6, 5], "without the one in rows 1 to 3, bounds would be those of W 1 with D 2"),
+    Case("bounds of U in rows 1, 2 and 3; with the one there, it would be 10 at 1, 2 or 3", 0, 0, no_claims(4, 0, UNIT, 4, [1]),
+         exact.finite(), Rows([0] * 5, [UNIT, 0, 0, 0, 0], [UNIT, 0, 1, 1, 1])),
+    Case("a bound of U in row 1 at 500; with the one there, it would be 10", 0, 0, no_claims(2, 0, UNIT, 500, LAST_SIZE), exact.finite(),
+         Rows([0] * 501, [UNIT, *[0] * 500], [UNIT, 0, *[1] * 499])),
+
+    # a divisor above 1 that leaves nothing, in three pairs; the second job has another start, leaves something, and has the same bounds
+    Case("by remainders, bounds at 1 and 2 would be 0", 0, 0, one(2, 0, 1, 8, 8, 2), exact.poisson(HALF),
+         Rows([8, 4, 1], [8, 4, 1], [0, 1, 2])),
+    Case("by the bound's remainder, the bound at 1 would be 0, less than the gap", 0, 0, one(2, 0, 1, 9, 9, 2), exact.poisson(HALF),
+         Rows([9, 4, 1], [9, 5, 2], [0, 1, 2])),
+    Case("by remainders, bounds at 1 and 2 would be 4 and 1", 0, 0, one(2, 0, 1, 8, 16, 2), exact.poisson(HALF),
+         Rows([8, 4, 1], [16, 8, 2], [8, 5, 3])),
+    Case("by the bound's remainder, the bound at 1 would be 4, less than the gap", 0, 0, one(2, 0, 1, 9, 17, 2), exact.poisson(HALF),
+         Rows([9, 4, 1], [17, 9, 3], [8, 5, 3])),
+    Case("by remainders in row 1, the bound at 2 would be 1", 0, 0, Job(2, 1, four(0, 2), four(), 8, 8, [1, 1], 2),
+         exact.bunches(2, exact.geometric(2)), Rows([8, 0, 4], [8, 0, 4], [0, 1, 2])),
+    Case("by remainders in row 0, the bound at 2 would be 1", 0, 0, Job(2, 1, four(0, 2), four(), 9, 9, [1, 1], 2),
+         exact.bunches(2, exact.geometric(2)), Rows([9, 0, 4], [9, 0, 5], [0, 1, 2])),
+    Case("by the low's remainder, the bound at 1 would be 1", 0, 0, one(2, 0, 1, 8, 9, 1), exact.poisson(HALF),
+         Rows([8, 4], [9, 5], [1, 2])),
+    Case("by the high's remainder, the bound at 1 would be 1", 0, 0, one(2, 0, 1, 7, 8, 1), exact.poisson(HALF),
+         Rows([7, 3], [8, 4], [1, 2])),
+
+    # nothing but zeros: the bound is 0 at totals 0 and 1 alone
+    *[Case(f"k {k}, no terms; by remainders, bounds would all be 0", 0, 0, no_claims(k, 7, 7, 4, [1]), exact.finite(),
+           Rows([7, 0, 0, 0, 0], [7, 0, 0, 0, 0], [0, 0, 1, 1, 1])) for k in (1, 4)],
+    *[Case(f"k {k}, no terms, W 2; by remainders, or D, bounds would all be 0", 0, 0, no_claims(k, 7, 7, 4), exact.finite(),
+           Rows([7, 0, 0, 0, 0], [7, 0, 0, 0, 0], [0, 1, 1, 1, 1])) for k in (1, 4)],
 ]
 
 
@@ -344,9 +443,9 @@ WIDE = [Case(f"{case.name}, from half the start on", 0, 0, replace(case.job, low
 BY_NAME = {law.name: law for law in LAWS}
 LONG = [
     law_case(BY_NAME["binomial 10 1/5"], "one size, X 500", [1], 500),
-    law_case(BY_NAME["negative binomial 1 1/2"], "the 500th size alone, X 500", [0] * 499 + [1], 500),
+    law_case(BY_NAME["negative binomial 1 1/2"], "the 500th size alone, X 500", LAST_SIZE, 500),
     law_case(BY_NAME["Poisson 10"], "500 sizes alike, X 500", [1] * 500, 500, exact_to=40),
     law_case(BY_NAME["one to four at a time"], "500 sizes, X 500", [1 + y % 3 for y in range(500)], 500, exact_to=40),
 ]
 
-CASES = [*PAPER, *TEMPTING_AND_WRONG, *CHECKS, *ORDER, *RANGE_AND_BOUND, *LAWS_ON_TABLES, *WIDE, *LONG]
+CASES = [*PAPER, *TEMPTING_AND_WRONG, *CHECKS, *ORDER, *RANGE_AND_BOUND, *ALLOWANCE, *LAWS_ON_TABLES, *WIDE, *LONG]
