@@ -92,8 +92,8 @@ def on_program(sheet):
 
 
 # each with the number of rows that there are at least
-KINDS = {"curve": (on_curve, 13), "reader": (on_reader, 8), "level": (on_level, 13), "mean": (on_mean, 7), "trials": (on_trials, 10),
-         "panjerWillmot": (on_panjer_willmot, 9), "hesselager": (on_hesselager, 7), "program": (on_program, 4)}
+KINDS = {"curve": (on_curve, 17), "reader": (on_reader, 8), "level": (on_level, 13), "mean": (on_mean, 7), "trials": (on_trials, 10),
+         "panjerWillmot": (on_panjer_willmot, 9), "hesselager": (on_hesselager, 7), "program": (on_program, 5)}
 
 
 class Row(NamedTuple):
