@@ -40,10 +40,10 @@ class Rule(unittest.TestCase):
         self.check(P1, [367879441, 183939720, 229924650, 99634015], [367879442, 183939721, 229924652, 99634016], [1, 2, 2, 2], (1, 1))
 
     def test_binomial(self):
-        """P2; only the proportions of weights count (P7)."""
+        """P2, and P7: for low and high only the proportions of weights count. The bound at 1 has no one where D times x times W is 1."""
         row = [250000000, 500000000, 250000000, 0, 0]
-        for weights in (1,), (1000,):
-            self.check(P2, row, row, [0, 1, 2, 1, 2], weights)
+        self.check(P2, row, row, [0, 0, 1, 1, 2])
+        self.check(P2, row, row, [0, 1, 2, 1, 2], (1000,))
 
     def test_signs(self):
         """P3, and what the paper calls tempting and wrong."""
@@ -52,24 +52,28 @@ class Rule(unittest.TestCase):
 
     def test_orders(self):
         """P4. And of order 4: the chance of 4 claims is that of none times A_4 + B_4/4, each claim has size 1, and there are no other
-        numbers of claims up to 4. The bounds of the four rows at each total are, with B_4 alone: 0 0 0 0; 1 1 1 1; 1/2 rounded up + 1 = 2,
-        then 1+1 = 2, 2, 2; 2/3 rounded up + 1 = 2, then 2+1 = 3, 3, 3; 3/4 rounded up + 1 = 2. With A_4 alone, which is taken as often as
-        the total is, those of the first row are 0, 1, 2/2 + 1 = 2, 6/3 + 1 = 3, 12/4 + 1 = 4."""
+        numbers of claims up to 4. Where the weight is 2, the bounds of the four rows at each total are, with B_4 alone: 0 0 0 0; 1 1 1 1;
+        1/2 rounded up + 1 = 2, then 1+1 = 2, 2, 2; 2/3 rounded up + 1 = 2, then 2+1 = 3, 3, 3; 3/4 rounded up + 1 = 2. With A_4 alone,
+        which is taken as often as the total is, those of the first row are 0, 1, 2/2 + 1 = 2, 6/3 + 1 = 3, 12/4 + 1 = 4. Where it is 1,
+        the first row has its one from total 2 on and the others have none: the fourth is 0 to total 3, with either term."""
         start = 400000001, 400000001
-        self.check(Job.of(1, [(0, 0), (0, 1)], start, 2), [400000001, 0, 200000000], [400000001, 0, 200000001], [0, 1, 2])
+        self.check(Job.of(1, [(0, 0), (0, 1)], start, 2), [400000001, 0, 200000000], [400000001, 0, 200000001], [0, 0, 1])
         none = [(0, 0)] * 3
-        row = [UNIT, 0, 0, 0, 250000000]
-        self.check(Job.of(1, [*none, (0, 1)], (UNIT, UNIT), 4), row, row, [0, 1, 2, 2, 2])
-        row = [UNIT, 0, 0, 0, UNIT]
-        self.check(Job.of(1, [*none, (1, 0)], (UNIT, UNIT), 4), row, row, [0, 1, 2, 3, 4])
+        for term, last, bound in ((0, 1), 250000000, [0, 1, 2, 2, 2]), ((1, 0), UNIT, [0, 1, 2, 3, 4]):
+            job, row = Job.of(1, [*none, term], (UNIT, UNIT), 4), [UNIT, 0, 0, 0, last]
+            self.check(job, row, row, bound, (2,))
+            self.check(job, row, row, [0, 0, 1, 1, 1])
 
     def test_limits(self):
         """What is just accepted: of P5, of P6, as many weights and totals as there may be. Without claims of size 1 to 499, totals 1 to 499
-        cannot be; the bound at each is 1; at 500 it is 500 * 1 * the start's 0 / 500 + 1 = 1, and the chance U * 500 / 500."""
-        self.check(Job.of(1, [(0, 2)], (UNIT, UNIT), 1), [UNIT, 2 * UNIT], [UNIT, 2 * UNIT], [0, 1])
+        cannot be; the bound at each is 1; at 500 it is 500 * 1 * the start's 0 / 500 + 1 = 1, and the chance U * 500 / 500. With weight 1
+        in place of 1,000 the divisor at 1 is 1, and the bound 0."""
+        self.check(Job.of(1, [(0, 2)], (UNIT, UNIT), 1), [UNIT, 2 * UNIT], [UNIT, 2 * UNIT], [0, 0])
+        self.check(Job.of(1, [(0, 1)], (0, UNIT), 1), [0, 0], [UNIT, UNIT], [UNIT, UNIT])
         self.check(Job.of(1, [(0, 1)], (0, UNIT), 0), [0], [UNIT], [UNIT])
-        row = [UNIT] + [0] * 499 + [UNIT]
-        self.check(Job.of(1, [(0, 1)], (UNIT, UNIT), 500), row, row, [0] + [1] * 500, [0] * 499 + [1000])
+        job, row = Job.of(1, [(0, 1)], (UNIT, UNIT), 500), [UNIT] + [0] * 499 + [UNIT]
+        self.check(job, row, row, [0] + [1] * 500, [0] * 499 + [1000])
+        self.check(job, row, row, [0, 0] + [1] * 499, [0] * 499 + [1])
 
     def test_weights_in_any_row(self):
         for weights in [1, 1], iter([1, 1]), (1 for _ in "ab"), memoryview(b"\1\1"), array.array("q", [1, 1]), {1: 1, 2: 1}.values():
@@ -125,8 +129,8 @@ class Refusals(unittest.TestCase):
         self.check(9, 1, Job.of(1, [(0, 3)], (UNIT, UNIT), 1))
 
     def test_bound(self):
-        """P6."""
-        self.check(10, 1, Job.of(1, [(0, 1)], (0, UNIT), 1))
+        """P6 with weights 1 and 1 and B 2."""
+        self.check(10, 1, Job.of(1, [(0, 2)], (0, UNIT), 1), (1, 1))
 
 
 class OfCurve(unittest.TestCase):
@@ -170,7 +174,7 @@ class OfCurve(unittest.TestCase):
             "0;0,000000001;0,000000002;0,000000001\n"
             "1;-0,000000001;0,000000000;0,000000002\n"))
         great = curve(Job.of(1, [(0, 2)], (UNIT, UNIT), 1), (1,))
-        self.assertEqual(great.to_csv().splitlines()[2], "1,2.000000000,2.000000000,0.000000001")
+        self.assertEqual(great.to_csv().splitlines()[2], "1,2.000000000,2.000000000,0.000000000")
 
     def test_dicts(self):
         self.assertEqual(curve(P3, (1,)).to_dicts(), [

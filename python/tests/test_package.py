@@ -96,7 +96,7 @@ TEXT = b"LAW 1 1\nTERM 0 1\nSTART 367879441 367879442\nLAST 3\nSEVERITY 2\nW %d\
 
 
 def binomial(divisor):
-    """The paper's P2, with fractions over any divisor."""
+    """The paper's P2, with fractions over any divisor and as large a weight."""
     found = curve(Job.of(divisor, [(-divisor, 3 * divisor)], (250000000, 250000000), 4), [divisor])
     return found.low, found.high, found.bound
 
@@ -134,8 +134,9 @@ class Threads(unittest.TestCase):
 
     def test_at_once(self):
         row = (250000000, 500000000, 250000000, 0, 0)
-        asked = {binomial: lambda _: (row, row, (0, 1, 2, 1, 2)), sheet: lambda number: (number, 7), word: lambda number: b"%dx" % number,
-                 level: lambda number: (number, 0), starts: lambda _: ((10 ** 9, 10 ** 9), (367879441, 367879442)),
+        asked = {binomial: lambda divisor: (row, row, (0, 1, 2, 1, 2) if divisor > 1 else (0, 0, 1, 1, 2)),
+                 sheet: lambda number: (number, 7), word: lambda number: b"%dx" % number, level: lambda number: (number, 0),
+                 starts: lambda _: ((10 ** 9, 10 ** 9), (367879441, 367879442)),
                  laws: lambda number: ((number, 1, 2), (number, -1, -3))}
         calls = [(call, 1 + count % 300) for count in range(1200) for call in asked]
         with concurrent.futures.ThreadPoolExecutor(8) as threads:

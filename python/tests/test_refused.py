@@ -21,7 +21,7 @@ CASES = {
     6: ("Weights", 0, "", lambda: curve(JOB, [1001])),
     7: ("Last", 0, "", lambda: curve(JOB._replace(last=501), [1])),
     9: ("Range", 1, "total", lambda: curve(Job.of(1, [(0, 3)], (UNIT, UNIT), 1), [1])),
-    10: ("Bound", 1, "total", lambda: curve(Job.of(1, [(0, 1)], (0, UNIT), 1), [1])),
+    10: ("Bound", 1, "total", lambda: curve(Job.of(1, [(0, 2)], (0, UNIT), 1), [1, 1])),
     21: ("Size", 0, "", lambda: read_sheet(b"")),
     22: ("Missing", 7, "line", lambda: read_sheet(TEXT[:-1])),
     23: ("Form", 6, "line", lambda: changed(b"2\nW 1\n", b"2\nW  1\n")),
