@@ -55,12 +55,12 @@ unfoldable pub scaled : ℤ → Entry → Entry
 scaled f e = record { low = lowPart f e; high = highPart f e; bound = boundPart f e }
 
 -- ---- division
--- what rounding may add to the gap: "Add the one only where the divisor is above 1", whether a remainder is left or not
+-- what rounding may add to the gap. Wish 4: "Add the one only where the divisor is above 1", whether a remainder is left or not
 unfoldable pub allowance : ℕ → ℤ
 allowance d = cond (ltb 1 d) (pos 1) (pos 0)
 
 -- "Low is the low sum divided and rounded down, towards minus infinity. High is the high sum divided and rounded up. Each sum is divided
--- once. Bound is the sum of the factors' sizes times the entries' bounds, divided by the same divisor, rounded up, plus one.", which is
+-- once. Bound is the sum of the factors' sizes times the entries' bounds, divided by the same divisor, rounded up, plus one."; the one is
 -- the allowance
 unfoldable pub rounded : ℕ → Entry → Entry
 rounded d s = record { low = floorDiv (s .low) d; high = ceilDiv (s .high) d; bound = ceilDiv (s .bound) d +ℤ allowance d }
