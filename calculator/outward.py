@@ -41,12 +41,18 @@ def first_entries(job):
     return [start] + [(0, 0, 0)] * (job.order - 1)
 
 
+def allowance(divisor):
+    """One for the rounding of the two ends, and none where the divisor is 1, as nothing can be rounded there. The divisor alone decides:
+    whether a larger one leaves a remainder plays no part."""
+    return 1 if divisor > 1 else 0
+
+
 def outward(products, divisor):
-    """One entry from pairs of a factor and an entry."""
+    """One entry from pairs of a factor and an entry, by the whole divisor of its row and total."""
     low_sum = sum(factor * (low if factor >= 0 else high) for factor, (low, high, _) in products)
     high_sum = sum(factor * (high if factor >= 0 else low) for factor, (low, high, _) in products)
     bound_sum = sum(abs(factor) * bound for factor, (_, _, bound) in products)
-    return down(low_sum, divisor), up(high_sum, divisor), up(bound_sum, divisor) + 1
+    return down(low_sum, divisor), up(high_sum, divisor), up(bound_sum, divisor) + allowance(divisor)
 
 
 def next_entries(job, earlier):
