@@ -6,17 +6,16 @@ from decimal import Context, Decimal
 from fractions import Fraction
 from itertools import accumulate, combinations
 
-from lesson import Law, both_round_to, cut, evaluate, job, lines, rows
+from lesson import Law, both_round_to, cut, entries, evaluate, job, lines, rows
 
 import exact
 from level import level_query
 from limits import UNIT
 from nearest import nearest, nine_digits
-from outward import first_entries, next_entries
 from start import LAST_TERM
 
-# the LAST line that question 4.2 asks for
-LAST_4_2 = 500
+# the line that question 4.2 asks for
+LAST_4_2 = "LAST 500"
 
 HALF, THIRD, QUARTER, FIFTH = (Fraction(1, n) for n in (2, 3, 4, 5))
 E_1, E_QUARTER, E_4 = (Fraction(Context(prec=50).exp(Decimal(power))) for power in ("-1", "-0.25", "-4"))
@@ -45,15 +44,6 @@ def e_sum(last):
 
 def column(name, place):
     return [row[place] for row in rows(name)]
-
-
-def entry_at(name, total):
-    """Low, high and bound by the rule, also at a total that is refused."""
-    read = job(name)
-    totals = [first_entries(read)]
-    while len(totals) <= total:
-        totals.append(next_entries(read, totals))
-    return totals[total][0]
 
 
 def greatest(amounts):
@@ -125,7 +115,7 @@ def binomial_table():
            f"{-job('growing.txt').a[0]} here.")
     refusal = lines("binomial.txt", LAST_4_2)[0]
     total = int(refusal.split()[2])
-    low, high, bound = entry_at("binomial.txt", total)
+    low, high, bound = entries(job("binomial.txt"), total)[total][0]
     yield where(bound > UNIT, f"`{refusal}`. No year costs more than 6, so the exact chance of total {total} is {PUMPS[total]}. It is the "
                               f"bound that is refused; the enclosure itself would be from {low} to {high}, too wide to be of use.")
 
@@ -133,7 +123,7 @@ def binomial_table():
 def binomial_nearest():
     """Sum over divisor of the recursion that rounds to the nearest, before it is rounded."""
     values = nearest(job("binomial.txt", LAST_4_2), 27_000_000)
-    shares = [Fraction((28 - 7 * x) * 2 * values[x - 1] + (56 - 7 * x) * values[x - 2], 9 * x) for x in range(8, LAST_4_2 + 1)]
+    shares = [Fraction((28 - 7 * x) * 2 * values[x - 1] + (56 - 7 * x) * values[x - 2], 9 * x) for x in range(8, len(values))]
     in_turn = all(share == shares[place % 2] for place, share in enumerate(shares))
     yield where(in_turn, f"From total 8 on the sum over the divisor is {shares[1]} or {shares[0]} in turn, and this is rounded to "
                          f"{round(shares[1])} or {round(shares[0])} each time.")
@@ -205,7 +195,7 @@ def growing_table():
     yield f"{times[1]} at total 1, {times[2]} at total 2, {times[18]} at total 18."
     _, number, place = lines("growing.txt")[0].split()
     yield f"Refusal {number} at total {place}: a bound would be above {UNIT:,} there."
-    table = rows("growing.txt", 18)
+    table = rows("growing.txt", "LAST 18")
     _, low, high, _ = table[18]
     yield where(low <= MOWERS[18] <= high, f"the exact chance of total 18 is {cut(MOWERS[18] / UNIT, 9)}, and it does lie from "
                                            f"{nine_digits(low)} to {nine_digits(high)}.")
@@ -221,7 +211,7 @@ def growing_nearest():
     other = nearest(job("growing.txt"), 1)
     yield f"to {nine_digits(1)}, total 19 would have {nine_digits(other[19])}, and all chances would add up to {nine_digits(sum(other))}."
     start = UNIT * FIFTH ** 13
-    thirteen = job("growing.txt", 26)
+    thirteen = job("growing.txt", "LAST 26")
     thirteen.b[0] = 14 * 4
     total = nine_digits(sum(nearest(thirteen, round(start))))
     yield f"(1/5)^13, or {float(start)} units."
