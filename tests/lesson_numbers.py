@@ -4,7 +4,7 @@ import math
 import re
 from decimal import Context, Decimal
 from fractions import Fraction
-from itertools import accumulate, combinations
+from itertools import accumulate, combinations, product
 
 from lesson import Law, both_round_to, cut, entries, evaluate, job, lines, rows
 
@@ -166,7 +166,11 @@ def tosses_table():
                 f"Low and high are the same at every total, and they are the exact chance. But the bound is {table[1][3]} at total 1, and "
                 f"{table[2][3]} at total 2.")
     divisors = [read.divisor * total * sum(read.weights) for total in (1, 2, 3)]
-    yield f"The divisor is {divisors[0]}. A whole number divided by {divisors[0]} stays as it is:"
+    yield (f"The divisor is {divisors[0]}. A whole number divided by {divisors[0]} stays as it is: nothing can be rounded, so nothing is "
+           f"added to the bound.")
+    ones = [factors for factors in product(range(1, 5), repeat=3) if math.prod(factors) == 1]
+    yield where(ones == [(1, 1, 1)], "In the table this can be so at total 1 alone, and only where D and W are both 1, as the divisor is "
+                                     "D × x × W.")
     yield f"The divisor is {divisors[1]}, so low and high may have to be rounded."
     no_rest = all(tried[1][1:3] == (2 * low, 2 * high) and tried[2][1:3] == (low, high)
                   for gap in (0, 1) for (low, high), tried in from_starts("two_tosses.txt", gap))
@@ -188,7 +192,8 @@ def rest_table():
                 f"where total 1 is the start times {-HALF}. From {even[0][1]} it comes out even. From {odd[0][1]} it does not, and low and "
                 f"high are {other_gaps[1]} apart there (question 2.4). Both starts have the gap 0, so the bounds must be the same,")
     bounds = [{tuple(bound for *_, bound in table) for _, table in from_starts("no_law.txt", gap)} for gap in (0, 1)]
-    yield where([*map(len, bounds)] == [1, 1], "It looks at the divisor alone, which is the same for every start.")
+    yield where([*map(len, bounds)] == [1, 1], "That is why the rule does not look whether a rest was left. It looks at the divisor alone, "
+                                               "which is the same for every start.")
     yield f"Write `{START_2_4}` in `no_law.txt`, and work out total 1 by hand."
     amount = exact.amount(exact.geometric(-HALF), [1], odd[0][1], 1)
     yield where(other_gaps[1] == odd[1][3], f"The exact amount, {float(amount)}, is no whole number of units. So low and high are "
@@ -261,7 +266,8 @@ def pairs_alone():
                 f"A_1, B_1 and A_2 are 0, and B_2/D is 2 × {HALF} = {2 * HALF}. The chance of no claims is e^-({HALF}), which is "
                 f"{cut(E_HALF, 11)}")
     yield where(all(entry[1] == before[0] for before, entry in zip(entries(read, 5), entries(read, 6)[1:])),
-                "Where W is 1, row 1 is the table itself, moved down by the one claim size that there is:")
+                "Where W is 1, row 1 is the table itself, moved down by the one claim size that there is: nothing is rounded in it, and "
+                "nothing is added to its bounds (question 3.5).")
     yield "the exact chance of total 1 is {}. The line says from {} to {}, with the bound {}.".format(ONLY_PAIRS[1], *table[1][1:])
     divisors = {total: read.divisor * total * sum(read.weights) for total, low, high, bound in table if low == high == 0 < bound}
     yield "The totals {} and {} have 0 and 0 too, but their divisors are {} and {}, and their bounds have the one.".format(
