@@ -270,8 +270,8 @@ def pairs_alone():
                 "nothing is added to its bounds (question 3.5).")
     yield "the exact chance of total 1 is {}. The line says from {} to {}, with the bound {}.".format(ONLY_PAIRS[1], *table[1][1:])
     divisors = {total: read.divisor * total * sum(read.weights) for total, low, high, bound in table if low == high == 0 < bound}
-    yield "The totals {} and {} have 0 and 0 too, but their divisors are {} and {}, and their bounds have the one.".format(
-        *divisors, *divisors.values())
+    totals, divided_by = (" and ".join(map(str, numbers)) for numbers in (divisors, divisors.values()))
+    yield f"The totals {totals} have 0 and 0 too, but their divisors are {divided_by}, and their bounds have the one."
 
 
 def group_table():
