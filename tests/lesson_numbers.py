@@ -150,7 +150,7 @@ def bound_rule():
 
 def from_starts(name, gap):
     """Starts with this gap, and the tables from them: those that are tried where something holds for every start."""
-    for low in *range(1, 100), *range(UNIT // 4 - 9, UNIT // 4 + 9):
+    for low in [*range(1, 100), *range(UNIT // 4 - 9, UNIT // 4 + 9)]:
         yield (low, low + gap), rows(name, f"START {low} {low + gap}")
 
 
