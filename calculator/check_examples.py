@@ -33,9 +33,11 @@ LAWS = {
     "class/binomial.txt": (exact.binomial(3, Fraction(7, 10)), Fraction(3, 10) ** 3),
     # no distribution: each amount is -1/2 times the one before
     "class/no_law.txt": (exact.geometric(-HALF), Fraction(1000, UNIT)),
+    "class/two_tosses.txt": (exact.binomial(2, HALF), HALF ** 2),
     "class/two_groups.txt": (exact.together(VANS, exact.binomial(3, THIRD)), (4 * FIFTH) ** 5 * (2 * THIRD) ** 3),
     "class/bicycles.txt": (exact.together(VANS, exact.poisson(1)), (4 * FIFTH) ** 5 * e_to("-1")),
     "class/pairs.txt": (exact.together(exact.poisson(1), exact.bunches(2, exact.poisson(QUARTER))), e_to("-1.25")),
+    "class/only_pairs.txt": (exact.bunches(2, exact.poisson(HALF)), e_to("-0.5")),
     "class/growing.txt": (exact.binomial(14, 4 * FIFTH), FIFTH ** 14),
     "class/turned.txt": (exact.binomial(14, 2 * FIFTH), (3 * FIFTH) ** 14),
 }

@@ -15,30 +15,44 @@ sys.path.append(str(ROOT / "calculator"))
 
 import program
 from limits import MOST_WEIGHTS, UNIT
+from outward import first_entries, next_entries
 from sheet import read_job
 from start import WHOLE, start_of_mean, start_of_trials
 
 OPERATORS = {ast.Add: operator.add, ast.Sub: operator.sub, ast.Mult: operator.mul, ast.Div: operator.truediv, ast.Pow: operator.pow}
 
 
-def sheet(name, last=None):
-    """The bytes of a sheet, or of the same sheet with another LAST line."""
+def sheet(name, other=None):
+    """The bytes of a sheet, or of the same sheet with another line for the one with its keyword, as `LAST 18`."""
     read = (ROOT / FOLDER / name).read_bytes()
-    return read if last is None else re.sub(rb"(?m)^LAST .*$", b"LAST %d" % int(last), read)
+    if other is None:
+        return read
+    changed, count = re.subn(rb"(?m)^%b .*$" % other.split()[0].encode(), other.encode(), read)
+    if count != 1:
+        raise ValueError(f"{name} has {count} lines for {other}")
+    return changed
 
 
-def job(name, last=None):
-    return read_job(sheet(name, last), MOST_WEIGHTS)
+def job(name, other=None):
+    return read_job(sheet(name, other), MOST_WEIGHTS)
 
 
-def lines(name, last=None):
+def lines(name, other=None):
     """What the calculator says that the program writes, line by line."""
-    return program.output(sheet(name, last)).decode().splitlines()
+    return program.output(sheet(name, other)).decode().splitlines()
 
 
-def rows(name, last=None):
+def rows(name, other=None):
     """Total, low, high and bound."""
-    return [tuple(map(int, line.split())) for line in lines(name, last)[1:]]
+    return [tuple(map(int, line.split())) for line in lines(name, other)[1:]]
+
+
+def entries(read, last):
+    """Low, high and bound of every row, at the totals 0 to `last`, by the calculator's rule; also from a total on that is refused."""
+    totals = [first_entries(read)]
+    while len(totals) <= last:
+        totals.append(next_entries(read, totals))
+    return totals
 
 
 class Law(NamedTuple):

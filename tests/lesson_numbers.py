@@ -4,27 +4,29 @@ import math
 import re
 from decimal import Context, Decimal
 from fractions import Fraction
-from itertools import accumulate, combinations
+from itertools import accumulate, combinations, product
 
-from lesson import Law, both_round_to, cut, evaluate, job, lines, rows
+from lesson import Law, both_round_to, cut, entries, evaluate, job, lines, rows
 
 import exact
 from level import level_query
 from limits import UNIT
 from nearest import nearest, nine_digits
-from outward import first_entries, next_entries
+from outward import outward
 from start import LAST_TERM
 
-# the LAST line that question 4.2 asks for
-LAST_4_2 = 500
+# the lines that questions 2.4, 2.5 and 4.2 ask for
+START_2_4, W_2_5, LAST_4_2 = "START 1001 1001", "W 2", "LAST 500"
 
 HALF, THIRD, QUARTER, FIFTH = (Fraction(1, n) for n in (2, 3, 4, 5))
-E_1, E_QUARTER, E_4 = (Fraction(Context(prec=50).exp(Decimal(power))) for power in ("-1", "-0.25", "-4"))
+E_1, E_HALF, E_QUARTER, E_4 = (Fraction(Context(prec=50).exp(Decimal(power))) for power in ("-1", "-0.5", "-0.25", "-4"))
 
 # The exact amounts of the lesson's laws, in units.
 PUMPS = exact.amounts(exact.binomial(3, Fraction(7, 10)), [2, 1], UNIT * Fraction(3, 10) ** 3, 48)
+TOSSES = exact.amounts(exact.binomial(2, HALF), [1], UNIT * HALF ** 2, 4)
 GROUPS = exact.amounts(exact.together(exact.binomial(5, FIFTH), exact.binomial(3, THIRD)), [3, 2, 1],
                        UNIT * (4 * FIFTH) ** 5 * (2 * THIRD) ** 3, 26)
+ONLY_PAIRS = exact.amounts(exact.bunches(2, exact.poisson(HALF)), [1], UNIT * E_HALF, 6)
 MOWERS = exact.amounts(exact.binomial(14, 4 * FIFTH), [1, 3], UNIT * FIFTH ** 14, 28)
 TURNED = exact.amounts(exact.binomial(14, 2 * FIFTH), [1, 1], UNIT * (3 * FIFTH) ** 14, 28)
 
@@ -45,15 +47,6 @@ def e_sum(last):
 
 def column(name, place):
     return [row[place] for row in rows(name)]
-
-
-def entry_at(name, total):
-    """Low, high and bound by the rule, also at a total that is refused."""
-    read = job(name)
-    totals = [first_entries(read)]
-    while len(totals) <= total:
-        totals.append(next_entries(read, totals))
-    return totals[total][0]
 
 
 def greatest(amounts):
@@ -121,19 +114,98 @@ def binomial_table():
            f"{nine_digits(table[7][2])}; from the law you know that it is {PUMPS[7]}.")
     sums = [sum(column("binomial.txt", place)[:7]) for place in (1, 2)]
     yield f"the lows of the totals 0 to 6 add up to {sums[0]} and the highs to {sums[1]}."
-    yield (f"It is 7/3 in part 2, where they go up from {table[8][3]} to {table[12][3]} though the start was exact, and "
+    yield (f"It is 7/3 for the pumps of part 2, where they go up from {table[8][3]} to {table[12][3]} though the start was exact, and "
            f"{-job('growing.txt').a[0]} here.")
     refusal = lines("binomial.txt", LAST_4_2)[0]
     total = int(refusal.split()[2])
-    low, high, bound = entry_at("binomial.txt", total)
+    low, high, bound = entries(job("binomial.txt"), total)[total][0]
     yield where(bound > UNIT, f"`{refusal}`. No year costs more than 6, so the exact chance of total {total} is {PUMPS[total]}. It is the "
                               f"bound that is refused; the enclosure itself would be from {low} to {high}, too wide to be of use.")
+
+
+def up(number, divisor):
+    return math.ceil(Fraction(number, divisor))
+
+
+def allowance(divisor):
+    """What the calculator adds to the bound, beside the bound sum over the divisor, rounded up."""
+    bound_sum = 7
+    return outward([(bound_sum, (0, 0, 1))], divisor)[2] - up(bound_sum, divisor)
+
+
+def widening(divisor):
+    """What rounding can add to the gap at most, beside that of the sums over the divisor, rounded up; for all rests."""
+    rests = range(divisor)
+    return max(up(low + gap, divisor) - low // divisor - up(gap, divisor) for low in rests for gap in rests)
+
+
+def bound_rule():
+    yield where(all(allowance(divisor) == 1 for divisor in range(2, 1001)),
+                "added up, divided, rounded up, plus one. The one is for the rounding of low and high.")
+    yield where(allowance(1) == widening(1) == 0,
+                "Where the divisor is 1, nothing is rounded and nothing is added: part 2 has such a line.")
+    yield where(all(widening(divisor) == 1 for divisor in range(2, 25)),
+                "one unit more than the bound sum over the divisor, rounded up, is always enough.")
+
+
+def from_starts(name, gap):
+    """Starts with this gap, and the tables from them: those that are tried where something holds for every start."""
+    for low in [*range(1, 100), *range(UNIT // 4 - 9, UNIT // 4 + 9)]:
+        yield (low, low + gap), rows(name, f"START {low} {low + gap}")
+
+
+def tosses_law():
+    odds = HALF / (1 - HALF)
+    yield (f"This is a binomial law with N = 2 and p = {HALF}: A/D is {-odds}, B/D is {3 * odds}, and the chance of no claims is "
+           f"(1/2)^2 = {float(TOSSES[0] / UNIT)}, again a whole number of units.")
+
+
+def tosses_table():
+    table, read = rows("two_tosses.txt"), job("two_tosses.txt")
+    yield where(all(low == high == amount for (_, low, high, _), amount in zip(table, TOSSES)),
+                f"Low and high are the same at every total, and they are the exact chance. But the bound is {table[1][3]} at total 1, and "
+                f"{table[2][3]} at total 2.")
+    divisors = [read.divisor * total * sum(read.weights) for total in (1, 2, 3)]
+    yield (f"The divisor is {divisors[0]}. A whole number divided by {divisors[0]} stays as it is: nothing can be rounded, so nothing is "
+           f"added to the bound.")
+    ones = [factors for factors in product(range(1, 5), repeat=3) if math.prod(factors) == 1]
+    yield where(ones == [(1, 1, 1)], "In the table this can be so at total 1 alone, and only where D and W are both 1, as the divisor is "
+                                     "D × x × W.")
+    yield f"The divisor is {divisors[1]}, so low and high may have to be rounded."
+    no_rest = all(tried[1][1:3] == (2 * low, 2 * high) and tried[2][1:3] == (low, high)
+                  for gap in (0, 1) for (low, high), tried in from_starts("two_tosses.txt", gap))
+    factor = read.a[0] * 3 + read.b[0]
+    yield where(no_rest, f"For the two tosses no start leaves a rest at total 2, as total 1 is twice the start; and at total 3 the factor "
+                         f"is {factor}. But their divisors are {divisors[1]} and {divisors[2]}, so both bounds have the one.")
+    other = rows("two_tosses.txt", W_2_5)
+    *first, last = (bound for *_, bound in other)
+    yield f"Write `{W_2_5}` in place of `W 1` in `two_tosses.txt`."
+    yield where([row[:3] for row in other] == [row[:3] for row in table],
+                f"The bounds are {', '.join(map(str, first))} and {last}; lows and highs stay.")
+
+
+def rest_table():
+    """The same law from two starts, and the bounds from many."""
+    even, odd = rows("no_law.txt"), rows("no_law.txt", START_2_4)
+    gaps, other_gaps = ([high - low for _, low, high, _ in table] for table in (even, odd))
+    yield where(not any(gaps) and other_gaps[0] == 0,
+                f"where total 1 is the start times {-HALF}. From {even[0][1]} it comes out even. From {odd[0][1]} it does not, and low and "
+                f"high are {other_gaps[1]} apart there (question 2.4). Both starts have the gap 0, so the bounds must be the same,")
+    bounds = [{tuple(bound for *_, bound in table) for _, table in from_starts("no_law.txt", gap)} for gap in (0, 1)]
+    yield where([*map(len, bounds)] == [1, 1], "That is why the rule does not look whether a rest was left. It looks at the divisor alone, "
+                                               "which is the same for every start.")
+    yield f"Write `{START_2_4}` in `no_law.txt`, and work out total 1 by hand."
+    amount = exact.amount(exact.geometric(-HALF), [1], odd[0][1], 1)
+    yield where(other_gaps[1] == odd[1][3], f"The exact amount, {float(amount)}, is no whole number of units. So low and high are "
+                                            f"{other_gaps[1]} apart, and the bound of {odd[1][3]} is needed.")
+    yield where({*other_gaps[1:]} == {1} and [row[3] for row in even] == [row[3] for row in odd],
+                "From total 1 on low and high are 1 apart, where before they were the same. All bounds stay.")
 
 
 def binomial_nearest():
     """Sum over divisor of the recursion that rounds to the nearest, before it is rounded."""
     values = nearest(job("binomial.txt", LAST_4_2), 27_000_000)
-    shares = [Fraction((28 - 7 * x) * 2 * values[x - 1] + (56 - 7 * x) * values[x - 2], 9 * x) for x in range(8, LAST_4_2 + 1)]
+    shares = [Fraction((28 - 7 * x) * 2 * values[x - 1] + (56 - 7 * x) * values[x - 2], 9 * x) for x in range(8, len(values))]
     in_turn = all(share == shares[place % 2] for place, share in enumerate(shares))
     yield where(in_turn, f"From total 8 on the sum over the divisor is {shares[1]} or {shares[0]} in turn, and this is rounded to "
                          f"{round(shares[1])} or {round(shares[0])} each time.")
@@ -186,6 +258,22 @@ def pairs_start():
     yield where(wider, f"This is wider, as the terms for the rest, {mean % 1}, are rounded outward one by one.")
 
 
+def pairs_alone():
+    read, table = job("only_pairs.txt"), rows("only_pairs.txt")
+    yield f"pairs come by a Poisson law of mean {HALF}, and a window costs 1."
+    terms = [read.a[0], read.b[0], read.a[1]]
+    yield where(not any(terms) and Fraction(read.b[1], read.divisor) == 2 * HALF,
+                f"A_1, B_1 and A_2 are 0, and B_2/D is 2 × {HALF} = {2 * HALF}. The chance of no claims is e^-({HALF}), which is "
+                f"{cut(E_HALF, 11)}")
+    yield where(all(entry[1] == before[0] for before, entry in zip(entries(read, 5), entries(read, 6)[1:])),
+                "Where W is 1, row 1 is the table itself, moved down by the one claim size that there is: nothing is rounded in it, and "
+                "nothing is added to its bounds (question 3.5).")
+    yield "the exact chance of total 1 is {}. The line says from {} to {}, with the bound {}.".format(ONLY_PAIRS[1], *table[1][1:])
+    divisors = {total: read.divisor * total * sum(read.weights) for total, low, high, bound in table if low == high == 0 < bound}
+    totals, divided_by = (" and ".join(map(str, numbers)) for numbers in (divisors, divisors.values()))
+    yield f"The totals {totals} have 0 and 0 too, but their divisors are {divided_by}, and their bounds have the one."
+
+
 def group_table():
     table = rows("two_groups.txt")
     yield f"up to {max(high - low for _, low, high, _ in table)} units, with bounds up to {max(bound for *_, bound in table)}."
@@ -205,7 +293,7 @@ def growing_table():
     yield f"{times[1]} at total 1, {times[2]} at total 2, {times[18]} at total 18."
     _, number, place = lines("growing.txt")[0].split()
     yield f"Refusal {number} at total {place}: a bound would be above {UNIT:,} there."
-    table = rows("growing.txt", 18)
+    table = rows("growing.txt", "LAST 18")
     _, low, high, _ = table[18]
     yield where(low <= MOWERS[18] <= high, f"the exact chance of total 18 is {cut(MOWERS[18] / UNIT, 9)}, and it does lie from "
                                            f"{nine_digits(low)} to {nine_digits(high)}.")
@@ -221,7 +309,7 @@ def growing_nearest():
     other = nearest(job("growing.txt"), 1)
     yield f"to {nine_digits(1)}, total 19 would have {nine_digits(other[19])}, and all chances would add up to {nine_digits(sum(other))}."
     start = UNIT * FIFTH ** 13
-    thirteen = job("growing.txt", 26)
+    thirteen = job("growing.txt", "LAST 26")
     thirteen.b[0] = 14 * 4
     total = nine_digits(sum(nearest(thirteen, round(start))))
     yield f"(1/5)^13, or {float(start)} units."
@@ -240,14 +328,14 @@ def turned_table():
     yield f"at total 0, from {none} to {one} units. Write down {both_round_to((none, one), 8)}."
 
 
-PARTS = [poisson_table, poisson_start, binomial_law, binomial_table, binomial_nearest, group_law, pairs_start, group_table, growing_table,
-         growing_nearest, turned_table]
+PARTS = [poisson_table, poisson_start, binomial_law, binomial_table, bound_rule, tosses_law, tosses_table, rest_table, binomial_nearest,
+         group_law, pairs_start, pairs_alone, group_table, growing_table, growing_nearest, turned_table]
 
 # An equation in the text, and what a number is that must be worked out somewhere: a fraction, a decimal, or three digits and more.
 EQUATION = re.compile(r"(?<![\w/.])([(\d][\d.()/^× ]*[\d)]) = (\d[\d./]*\d)(\.\.\.)?")
 NUMBER = re.compile(r"-?\d+/\d+|-?\d+\.\d+|\d{3,}")
 # What is no result: the numbers of questions, LAST lines, and what question 1.3 asks for.
-NO_RESULT = re.compile(r"\*\*\d\.\d\*\*|`LAST \d+`|99 years of 100")
+NO_RESULT = re.compile(r"\*\*\d\.\d\*\*|\(question \d\.\d\)|`LAST \d+`|99 years of 100")
 
 
 def comes_out(left, right, dots):
