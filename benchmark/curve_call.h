@@ -29,8 +29,9 @@ static int64_t floor_div(int64_t n, int64_t d) { return n < 0 ? -1 - (-1 - n) / 
 
 static int64_t ceil_div(int64_t n, int64_t d) { return n <= 0 ? n / d : (n - 1) / d + 1; }
 
+// the bound has one more where something can be rounded
 static Entry divided(Entry sums, int64_t d) {
-    return (Entry){floor_div(sums.low, d), ceil_div(sums.high, d), ceil_div(sums.bound, d) + 1};
+    return (Entry){floor_div(sums.low, d), ceil_div(sums.high, d), ceil_div(sums.bound, d) + (d > 1)};
 }
 
 static bool outside(int64_t limit, int64_t z) { return z < -limit || limit < z; }

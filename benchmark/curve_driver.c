@@ -177,6 +177,27 @@ static void compare_largest(void) {
     }
 }
 
+// Divisors of 1, by which nothing is rounded: D is 1 or 2, and W from 1 to 4, so that the divisor is 1 in all rows at total 1, in further
+// rows alone or nowhere. The laws have one term, the last, so that row 0 takes only what has come through every further row.
+static void compare_undivided(void) {
+    job.start_low = job.start_high = 400000001;
+    job.last = CLAIMTOTALS_TOTALS - 1;
+    job.count = 2;
+    for (uint64_t order = 1; order <= 4; order++) {
+        for (uint64_t divisor = 1; divisor <= 2; divisor++) {
+            no_terms();
+            job.order = order;
+            job.divisor = divisor;
+            job.b[order - 1] = (int64_t)(order * divisor);
+            for (uint64_t both = 1; both < 9; both++) {
+                job.weights[0] = both % 3;
+                job.weights[1] = both / 3;
+                compare_accepted();
+            }
+        }
+    }
+}
+
 // compares on the sheet's job with a change
 #define WITH(change)           \
     do {                       \
@@ -211,7 +232,9 @@ static void compare_all(void) {
     WITH(job.high_length = job.last);
     WITH(job.bound_length = job.last);
     WITH(job.work_length = 9 * job.last + 8);
+    // bounds at total 1 of U, as nothing is rounded, and of U + 1
     WITH((one_term(0, 1), job.start_low = 0, job.start_high = unit));
+    WITH((one_term(0, 2), job.count = 2, job.weights[1] = 1, job.start_low = 0, job.start_high = unit));
     WITH(one_term(-1, 0));
     WITH(one_term(-2, 0));
     for (size_t number = 0; number <= REFUSALS; number++)
@@ -220,6 +243,8 @@ static void compare_all(void) {
     compare_signs();
     job = given;
     compare_largest();
+    job = given;
+    compare_undivided();
     job = given;
 }
 
