@@ -1,19 +1,17 @@
--- Division of sums: the allowance is 0 or 1, so that a bound's quotient fits with it; by 1 nothing is rounded and nothing allowed.
+-- Division of sums: the allowance is 1 or 0, by the divisor; the bound goes by its own sum, and by 1 nothing is rounded.
 use mathlib.Core.Path.{_≡_, refl, ap}
 use mathlib.Core.Bool.{Bool, true, false, cond}
 use borrow.Author.Tests.{ltb-true, ltb-false}
 use Prim.Native.Nat.{ℕ, _≤_, _<_}
 use native.Mathlib.Nat as NL
-use native.Mathlib.Omega.{arith}
 use lib.Dec.{ltb}
-use lib.IntN.{ℤ, pos, natAbs, _+ℤ_, +ℤ-idr}
+use lib.IntN.{ℤ, pos, _+ℤ_, +ℤ-idr}
 use lib.Signed.{_≤ℤ_}
 use mir.Syntax.{w64}
 use mir.Val.{SFits}
 use Rattle.algebra.proofs.Integer.{signed}
-use Rattle.algebra.proofs.Size.{size-add, size-fits}
 use Rattle.outward.specs.Division.{ceilDiv}
-use Rattle.outward.proofs.Division.{ceil-size, floor-one, ceil-one}
+use Rattle.outward.proofs.Division.{floor-one, ceil-one}
 use Rattle.enclosure.specs.Entry.{allowance, rounded, DividedByOne, BoundAlone}
 use Rattle.enclosure.proofs.Scaled.{same-entry}
 
@@ -33,12 +31,9 @@ allowance-above d l = by-divisor (λ z. z ≡ pos 1) d (λ k. absurd (NL.not-le-
 pub allowance-least : (d : ℕ) → pos 0 ≤ℤ allowance d
 allowance-least d = by-divisor (λ z. pos 0 ≤ℤ z) d (λ _. omega signed) (λ _. omega signed)
 
-pub allowance-most : (d : ℕ) → natAbs (allowance d) ≤ 1
-allowance-most d = by-divisor (λ z. natAbs z ≤ 1) d (λ _. omega arith) (λ _. omega arith)
-
-pub quotient-fits : (z : ℤ) (d : ℕ) → natAbs z ≤ 4000000000000000000 → SFits w64 (ceilDiv z d +ℤ allowance d)
-quotient-fits z d h = size-fits w64 (ceilDiv z d +ℤ allowance d)
-    (omega (arith, size-add (ceilDiv z d) (allowance d), ceil-size z d, allowance-most d))
+-- where there is room for the one, there is room for the allowance
+pub allowance-fits : (z : ℤ) (d : ℕ) → SFits w64 z → SFits w64 (z +ℤ pos 1) → SFits w64 (z +ℤ allowance d)
+allowance-fits z d none one = by-divisor (λ a. SFits w64 (z +ℤ a)) d (λ _. rw (+ℤ-idr z) none) (λ _. one)
 
 -- ---- the quotients
 pub bound-alone : BoundAlone

@@ -15,6 +15,8 @@ use Rattle.algebra.proofs.Sum.{accumulate-next, sum-zero, sum-shift, sum-vanish
 use Rattle.algebra.proofs.Size.{size-add, size-mul-le, size-fits}
 use Rattle.model.specs.Weights.{totalWeight}
 use Rattle.model.specs.Limits.{unit, mostLast}
+use Rattle.outward.specs.Division.{ceilDiv}
+use Rattle.outward.proofs.Division.{ceil-size}
 use Rattle.enclosure.specs.declared.Entry.{Entry}
 use Rattle.enclosure.specs.declared.term.Factor.{Factor}
 use Rattle.enclosure.specs.Entry.{plus, scaled, EntryFits}
@@ -60,6 +62,10 @@ module _ (column : Entry → ℤ) (adds : (d e : Entry) → column (plus d e) �
     running-size s g w m n (λ y l. h y (omega arith)),
     h n (omega arith),
   ))
+
+-- ---- the quotient of a bound's sum, and one more
+pub quotient-fits : (z : ℤ) (d : ℕ) → natAbs z ≤ 4000000000000000000 → SFits w64 (ceilDiv z d +ℤ pos 1)
+quotient-fits z d h = size-fits w64 (ceilDiv z d +ℤ pos 1) (omega (arith, size-add (ceilDiv z d) (pos 1), ceil-size z d))
 
 -- ---- a factor
 module _ (f : Factor) (h : FactorSmall f) where

@@ -57,7 +57,7 @@ fn allowance(divisor: u64) -> i64
 
 // The sums divided once each, outward; the bound also has the allowance.
 pub fn divide_sums(sums: Entry, divisor: u64) -> Entry
-    requires { ⌜ (1 ≤ divisor) × (divisor < 2 ^ 63) × SFits w64 (ceilDiv (sums .bound) divisor +ℤ allowance divisor) ⌝ }
+    requires { ⌜ (1 ≤ divisor) × (divisor < 2 ^ 63) × SFits w64 (ceilDiv (sums .bound) divisor +ℤ pos 1) ⌝ }
     ensures { λ r. ⌜ r ≡ rounded divisor sums ⌝ }
 {
     let ends = outward::divide(sums.low, sums.high, divisor);

@@ -17,11 +17,10 @@ use Rattle.model.specs.Limits.{mostLast}
 use Rattle.outward.specs.Division.{ceilDiv}
 use Rattle.enclosure.specs.declared.Entry.{Entry}
 use Rattle.enclosure.specs.declared.term.Factor.{Factor}
-use Rattle.enclosure.specs.Entry.{none, plus, sumOf, scaled, allowance, EntryFits}
+use Rattle.enclosure.specs.Entry.{none, plus, sumOf, scaled, EntryFits}
 use Rattle.enclosure.specs.Term.{TermRoom, lineFactor, termSums}
 use Rattle.enclosure.proofs.Scaled.{plus-assoc, plus-none}
-use Rattle.enclosure.proofs.Rounded.{quotient-fits}
-use Rattle.enclosure.proofs.Sizes.{term-size}
+use Rattle.enclosure.proofs.Sizes.{term-size, quotient-fits}
 use Rattle.rows.specs.Curve.{Rows, severities, factor, sumsZero, sumsNext, sumsAt}
 use Rattle.rows.specs.Layout.{Lent, Reachable}
 use Rattle.rows.specs.Progress.{Basis, Ready, termFactor, weightAlone}
@@ -156,5 +155,5 @@ module _ (law : Law) (weights : List ℕ) (x : ℕ) where
         }
 
     -- and the bound that is made of them, whatever the divisor
-    pub bound-fits : (j d : ℕ) → j < law .order → SFits w64 (ceilDiv (sumsAt law weights rows j x .bound) d +ℤ allowance d)
+    pub bound-fits : (j d : ℕ) → j < law .order → SFits w64 (ceilDiv (sumsAt law weights rows j x .bound) d +ℤ pos 1)
     bound-fits j d l = quotient-fits (sumsAt law weights rows j x .bound) d (omega (arith, sums-size j l .bound))
