@@ -176,6 +176,10 @@ lawP4 = law 2 1 (pos 0 ∷ pos 0 ∷ []) (pos 0 ∷ pos 1 ∷ [])
 abbrev startP4 : Start
 startP4 = startOf 400000001 400000001
 
+-- "At 1: 0, 0 .. At 2: 200000000, 200000001"
+abbrev rowsP4 : (bounds : List ℕ) (X : ℕ) → Lent
+rowsP4 bounds = holding (map pos (400000001 ∷ 0 ∷ 200000000 ∷ [])) (map pos (400000001 ∷ 0 ∷ 200000001 ∷ [])) (map pos bounds)
+
 -- P6: "D 1, A 0, B 1, start 0 and U"
 abbrev lawP6 : Law
 lawP6 = law 1 1 (pos 0 ∷ []) (pos 1 ∷ [])
@@ -195,14 +199,11 @@ cases =
     -- "P3 with start 1 twice": "The rule gives low -1, high 0, bound 1."
     ∷ row (law 1 2 (negℤ (pos 1) ∷ []) (pos 0 ∷ [])) (startOf 1 1) 1 (1 ∷ []) accepted
     (holding (pos 1 ∷ negℤ (pos 1) ∷ []) (pos 1 ∷ pos 0 ∷ []) (pos 0 ∷ pos 1 ∷ []))
-    -- P4: "At 1: 0, 0 .. At 2: 200000000, 200000001"; "P4's become 0, 0, 1"
-    ∷ row lawP4 startP4 2 (1 ∷ []) accepted
-    (holding (map pos (400000001 ∷ 0 ∷ 200000000 ∷ [])) (map pos (400000001 ∷ 0 ∷ 200000001 ∷ [])) (map pos (0 ∷ 0 ∷ 1 ∷ [])))
+    -- P4: "X 2"; "P4's become 0, 0, 1"
+    ∷ row lawP4 startP4 2 (1 ∷ []) accepted (rowsP4 (0 ∷ 0 ∷ 1 ∷ []))
     -- the same law with D 2, so that row 0's divisor is never 1 and row 1's is; then with W 2, so that neither is
-    ∷ row (law 2 2 (pos 0 ∷ pos 0 ∷ []) (pos 0 ∷ pos 2 ∷ [])) startP4 2 (1 ∷ []) accepted
-    (holding (map pos (400000001 ∷ 0 ∷ 200000000 ∷ [])) (map pos (400000001 ∷ 0 ∷ 200000001 ∷ [])) (map pos (0 ∷ 1 ∷ 1 ∷ [])))
-    ∷ row lawP4 startP4 2 (2 ∷ []) accepted
-    (holding (map pos (400000001 ∷ 0 ∷ 200000000 ∷ [])) (map pos (400000001 ∷ 0 ∷ 200000001 ∷ [])) (map pos (0 ∷ 1 ∷ 2 ∷ [])))
+    ∷ row (law 2 2 (pos 0 ∷ pos 0 ∷ []) (pos 0 ∷ pos 2 ∷ [])) startP4 2 (1 ∷ []) accepted (rowsP4 (0 ∷ 1 ∷ 1 ∷ []))
+    ∷ row lawP4 startP4 2 (2 ∷ []) accepted (rowsP4 (0 ∷ 1 ∷ 2 ∷ []))
     -- the like of order 4, where what row 3 has at total 3 came through rows 1 and 2
     ∷ row (law 4 2 [] (map pos (0 ∷ 0 ∷ 0 ∷ 4 ∷ []))) startP4 4 (1 ∷ []) accepted
     (holding (map pos (400000001 ∷ 0 ∷ 0 ∷ 0 ∷ 200000000 ∷ [])) (map pos (400000001 ∷ 0 ∷ 0 ∷ 0 ∷ 200000001 ∷ []))

@@ -1,5 +1,5 @@
--- The floor by the division with remainder of natural numbers, at each sign; the ceiling is the floor with the signs turned. Of natural
--- numbers the ceiling is one too; and an interval is known by its two ends.
+-- The floor by the division with remainder of natural numbers, at each sign; the ceiling is the floor with the signs turned. By 1 nothing
+-- is rounded. Of natural numbers the ceiling is one too; and an interval is known by its two ends.
 use mathlib.Core.Path.{_≡_, refl, _∙_, ap}
 use Prim.Native.Nat.{ℕ, zero, suc, _+_, _*_, _/_, _≤_, _<_, zero-le, suc-le-suc}
 use native.Mathlib.Nat.{mul-div-le, lt-mul-div-succ, div-le-self, div-one, zero-div}
@@ -49,7 +49,6 @@ ceil-nonneg (pos zero) n h = rw (zero-div n) h
 ceil-nonneg (pos (suc a)) n h = leZ-yes (le→leb 0 (suc (a / n)) zero-le)
 ceil-nonneg (negsuc a) n h = absurd (h .le)
 
--- by 1 nothing is rounded
 pub floor-one : (z : ℤ) → floorDiv z 1 ≡ z
 unfolding floorDiv
 floor-one (pos a) = ap pos (div-one a)
