@@ -12,7 +12,7 @@ import exact
 from level import level_query
 from limits import UNIT
 from nearest import nearest, nine_digits
-from outward import outward
+from outward import Job, outward, up
 from start import LAST_TERM
 
 # the lines that questions 2.4, 2.5 and 4.2 ask for
@@ -123,10 +123,6 @@ def binomial_table():
                               f"bound that is refused; the enclosure itself would be from {low} to {high}, too wide to be of use.")
 
 
-def up(number, divisor):
-    return math.ceil(Fraction(number, divisor))
-
-
 def allowance(divisor):
     """What the calculator adds to the bound, beside the bound sum over the divisor, rounded up."""
     bound_sum = 7
@@ -137,6 +133,13 @@ def widening(divisor):
     """What rounding can add to the gap at most, beside that of the sums over the divisor, rounded up; for all rests."""
     rests = range(divisor)
     return max(up(low + gap, divisor) - low // divisor - up(gap, divisor) for low in rests for gap in rests)
+
+
+def nothing_added(most):
+    """The D, x and W from 1 to `most` where a bound of 0 stays 0; without terms nothing but the one can add to it."""
+    numbers = range(1, most + 1)
+    tables = {(d, w): entries(Job(1, d, [0] * 4, [0] * 4, 7, 7, [w], most), most) for d, w in product(numbers, repeat=2)}
+    return [(d, x, w) for (d, w), totals in tables.items() for x in numbers if totals[x][0][2] == 0]
 
 
 def bound_rule():
@@ -168,9 +171,8 @@ def tosses_table():
     divisors = [read.divisor * total * sum(read.weights) for total in (1, 2, 3)]
     yield (f"The divisor is {divisors[0]}. A whole number divided by {divisors[0]} stays as it is: nothing can be rounded, so nothing is "
            f"added to the bound.")
-    ones = [factors for factors in product(range(1, 5), repeat=3) if math.prod(factors) == 1]
-    yield where(ones == [(1, 1, 1)], "In the table this can be so at total 1 alone, and only where D and W are both 1, as the divisor is "
-                                     "D × x × W.")
+    yield where(nothing_added(4) == [(1, 1, 1)],
+                "In the table this can be so at total 1 alone, and only where D and W are both 1, as the divisor is D × x × W.")
     yield f"The divisor is {divisors[1]}, so low and high may have to be rounded."
     no_rest = all(tried[1][1:3] == (2 * low, 2 * high) and tried[2][1:3] == (low, high)
                   for gap in (0, 1) for (low, high), tried in from_starts("two_tosses.txt", gap))

@@ -204,7 +204,7 @@ cases =
     -- the same law with D 2, so that row 0's divisor is never 1 and row 1's is; then with W 2, so that neither is
     ∷ row (law 2 2 (pos 0 ∷ pos 0 ∷ []) (pos 0 ∷ pos 2 ∷ [])) startP4 2 (1 ∷ []) accepted (rowsP4 (0 ∷ 1 ∷ 1 ∷ []))
     ∷ row lawP4 startP4 2 (2 ∷ []) accepted (rowsP4 (0 ∷ 1 ∷ 2 ∷ []))
-    -- the like of order 4, where what row 3 has at total 3 came through rows 1 and 2
+    -- the same at order 4, where what row 3 has at total 3 came through rows 1 and 2
     ∷ row (law 4 2 [] (map pos (0 ∷ 0 ∷ 0 ∷ 4 ∷ []))) startP4 4 (1 ∷ []) accepted
     (holding (map pos (400000001 ∷ 0 ∷ 0 ∷ 0 ∷ 200000000 ∷ [])) (map pos (400000001 ∷ 0 ∷ 0 ∷ 0 ∷ 200000001 ∷ []))
     (map pos (0 ∷ 1 ∷ 1 ∷ 1 ∷ 1 ∷ [])))

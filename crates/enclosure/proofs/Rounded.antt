@@ -1,4 +1,4 @@
--- Division of sums: the allowance is 1 or 0, by the divisor; the bound goes by its own sum, and by 1 nothing is rounded.
+-- The allowance by the test of the divisor, once for every property; the bound by its own sum; and division by 1 number by number.
 use mathlib.Core.Path.{_≡_, refl, ap}
 use mathlib.Core.Bool.{Bool, true, false, cond}
 use borrow.Author.Tests.{ltb-true, ltb-false}
@@ -10,14 +10,13 @@ use lib.Signed.{_≤ℤ_}
 use mir.Syntax.{w64}
 use mir.Val.{SFits}
 use Rattle.algebra.proofs.Integer.{signed}
-use Rattle.outward.specs.Division.{ceilDiv}
 use Rattle.outward.proofs.Division.{floor-one, ceil-one}
 use Rattle.enclosure.specs.Entry.{allowance, rounded, DividedByOne, BoundAlone}
 use Rattle.enclosure.proofs.Scaled.{same-entry}
 
 -- ---- the allowance
 -- has a property that 0 has where the divisor is not above 1, and 1 where it is
-pub by-divisor : (P : ℤ → Type 0) (d : ℕ) → (d ≤ 1 → P (pos 0)) → (1 < d → P (pos 1)) → P (allowance d)
+by-divisor : (P : ℤ → Type 0) (d : ℕ) → (d ≤ 1 → P (pos 0)) → (1 < d → P (pos 1)) → P (allowance d)
 unfolding allowance
 by-divisor P d at-one above = by (ltb 1 d) refl
   where
@@ -38,7 +37,7 @@ allowance-fits z d none one = by-divisor (λ a. SFits w64 (z +ℤ a)) d (λ _. r
 -- ---- the quotients
 pub bound-alone : BoundAlone
 unfolding rounded
-bound-alone d s s′ p = ap (λ (b : ℤ). ceilDiv b d +ℤ allowance d) p
+bound-alone d s s′ p = ap (λ (b : ℤ). rounded d (record { low = s .low; high = s .high; bound = b }) .bound) p
 
 pub divided-by-one : DividedByOne
 unfolding rounded allowance

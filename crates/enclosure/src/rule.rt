@@ -55,7 +55,7 @@ fn allowance(divisor: u64) -> i64
     if 1 < divisor { 1 } else { 0 }
 }
 
-// The sums divided once each, outward; the bound also has the allowance.
+// The sums divided once each, outward; the bound also has the allowance. It asks for room for the one, whatever the divisor is.
 pub fn divide_sums(sums: Entry, divisor: u64) -> Entry
     requires { ⌜ (1 ≤ divisor) × (divisor < 2 ^ 63) × SFits w64 (ceilDiv (sums .bound) divisor +ℤ pos 1) ⌝ }
     ensures { λ r. ⌜ r ≡ rounded divisor sums ⌝ }
