@@ -1,15 +1,14 @@
 -- Laws of `firstOf`, by induction on the list of conditions. A call comes to its answer by `Due`, one condition after the other; what an
--- acceptance says of each condition is `none-holds`.
+-- acceptance, or a later list's refusal, says of each condition is `none-holds`.
 use mathlib.Core.Path.{_≡_, refl, sym, _∙_, ap}
-use mathlib.Core.Bool.{Bool, true, false, cond, true≢false}
+use mathlib.Core.Bool.{Bool, true, false, not, cond, true≢false}
 use mathlib.Core.List.{List, [], _∷_, _++_}
 use Prim.Native.Nat.{ℕ, zero, suc}
-use native.Mathlib.Nat as NL
 use native.Mathlib.Omega.{arith}
 use native.Mathlib.Numerals.{add-one}
 use borrow.Author.Count.{below-none, below-more}
-use borrow.Author.Tests.{ne-eqb}
-use lib.Dec.{T, ltb, eqb, ltb→lt}
+use borrow.Author.Tests.{eq-eqb, ne-eqb}
+use lib.Dec.{T, eqb}
 use lib.ListN.{length, getD}
 use Rattle.algebra.specs.Smallest.{FailBelow}
 use Rattle.algebra.specs.Table.{every}
@@ -36,26 +35,29 @@ unfolding firstOf
 by-first P true number place rest this others = this refl
 by-first P false number place rest this others = others refl
 
--- each condition has a number of its own, which is not the acceptance's 0
-abbrev pub allNumbered : List Condition → Bool
-allNumbered = every (λ c. ltb 0 (c .number))
+-- no condition of the list has this number; each has one that is not the acceptance's 0
+abbrev pub lacks : ℕ → List Condition → Bool
+lacks number = every (λ c. not (eqb (c .number) number))
 
-not-zero : (c : Condition) (cs : List Condition) → T (allNumbered (c ∷ cs)) → ¬ (c .number ≡ 0)
-not-zero c cs t e = NL.not-suc-le-zero (rw e at (ltb→lt 0 (c .number) (and-left (ltb 0 (c .number)) (allNumbered cs) t)))
+abbrev pub allNumbered : List Condition → Bool
+allNumbered = lacks 0
+
+other-number : (number : ℕ) (c : Condition) (cs : List Condition) → T (lacks number (c ∷ cs)) → ¬ (c .number ≡ number)
+other-number number c cs t e = rw (eq-eqb (c .number) number e) at (and-left (not (eqb (c .number) number)) (lacks number cs) t)
 
 -- two lists, one after the other: the second counts where the first refuses nothing
 pub first-append : (cs ds : List Condition) → T (allNumbered cs)
     → firstOf (cs ++ ds) ≡ cond (isAccepted (firstOf cs)) (firstOf ds) (firstOf cs)
 unfolding firstOf
 first-append [] ds t = refl
-first-append (c ∷ cs) ds t = by (c .holds) (first-append cs ds (and-right (ltb 0 (c .number)) (allNumbered cs) t))
+first-append (c ∷ cs) ds t = by (c .holds) (first-append cs ds (and-right (not (eqb (c .number) 0)) (allNumbered cs) t))
   where
     refusal : Answer
     refusal = refused (c .number) (c .place)
 
     by : (b : Bool) → firstOf (cs ++ ds) ≡ cond (isAccepted (firstOf cs)) (firstOf ds) (firstOf cs)
         → cond b refusal (firstOf (cs ++ ds)) ≡ cond (isAccepted (cond b refusal (firstOf cs))) (firstOf ds) (cond b refusal (firstOf cs))
-    by true e = rw (ne-eqb (c .number) 0 (not-zero c cs t))
+    by true e = rw (ne-eqb (c .number) 0 (other-number 0 c cs t))
     by false e = e
 
 -- ---- one condition after the other
@@ -111,15 +113,18 @@ conditionOf (c ∷ cs) number = cond (eqb (c .number) number) c (conditionOf cs 
 abbrev NoneHolds : List Condition → Type 0
 NoneHolds cs = (number : ℕ) → conditionOf cs number .holds ≡ false
 
--- of two lists, one after the other, the first has no condition that holds, and the second accepts too
-pub none-holds : (cs ds : List Condition) → T (allNumbered cs) → firstOf (cs ++ ds) ≡ accepted → NoneHolds cs × (firstOf ds ≡ accepted)
+-- two lists, one after the other, and an answer whose number the first lacks: it has no condition that holds, and the answer is that of
+-- the second. So it is with an acceptance.
+pub none-holds : (cs ds : List Condition) {answer : Answer} → T (lacks (answer .number) cs) → firstOf (cs ++ ds) ≡ answer
+    → NoneHolds cs × (firstOf ds ≡ answer)
 unfolding firstOf
 none-holds [] ds t e = (λ number. refl, e)
-none-holds (c ∷ cs) ds t e = by (c .holds) refl e (none-holds cs ds (and-right (ltb 0 (c .number)) (allNumbered cs) t))
+none-holds (c ∷ cs) ds {answer} t e =
+    by (c .holds) refl e (none-holds cs ds (and-right (not (eqb (c .number) (answer .number))) (lacks (answer .number) cs) t))
   where
-    by : (b : Bool) → c .holds ≡ b → cond b (refused (c .number) (c .place)) (firstOf (cs ++ ds)) ≡ accepted
-        → (firstOf (cs ++ ds) ≡ accepted → NoneHolds cs × (firstOf ds ≡ accepted)) → NoneHolds (c ∷ cs) × (firstOf ds ≡ accepted)
-    by true h e rest = absurd (not-zero c cs t (ap (λ (a : Answer). a .number) e))
+    by : (b : Bool) → c .holds ≡ b → cond b (refused (c .number) (c .place)) (firstOf (cs ++ ds)) ≡ answer
+        → (firstOf (cs ++ ds) ≡ answer → NoneHolds cs × (firstOf ds ≡ answer)) → NoneHolds (c ∷ cs) × (firstOf ds ≡ answer)
+    by true h e rest = absurd (other-number (answer .number) c cs t (ap (λ (a : Answer). a .number) e))
     by false h e rest = (λ number. either (eqb (c .number) number) (conditionOf cs number) (rest e .0 number), rest e .1)
       where
         either : (b : Bool) (d : Condition) → d .holds ≡ false → cond b c d .holds ≡ false
