@@ -1,5 +1,5 @@
 -- The rows' first X+1 places are what the job shows. These entries are in order, as the exact amounts lie between them, and small, as none
--- has a fault; so the level query does not refuse them, and encloses the quantile of the exact amounts.
+-- has a fault; so the level queries do not refuse them, and what they tell is true of the exact amounts.
 use mathlib.Core.Path.{_≡_, refl, sym}
 use mathlib.Core.Bool.{false}
 use mathlib.Core.List.{List, [], _∷_}
@@ -25,7 +25,7 @@ use Rattle.compound.specs.Call.{curveLent}
 use Rattle.compound.proofs.Accepted.{limits, entry-small, lows-long, highs-long}
 use Rattle.intervals.specs.Checks.{wrongLengths, wrongAt, firstWrong}
 use Rattle.intervals.specs.Amounts.{Enclose}
-use Rattle.quantile.specs.Call.{wrongLevel, unreached, quantiles}
+use Rattle.quantile.specs.Call.{wrongLevel, reachCondition, queryBy, sureQuery, possibleQuery}
 use Rattle.quantile.proofs.Enclosed.{quantile-enclosed}
 use Rattle.accuracy.specs.Accuracy.{Accepted, shown}
 use Rattle.accuracy.specs.Query.{lows, highs, RowsNotRefused, RowsEnclose, EnclosesQuantile}
@@ -80,17 +80,18 @@ module _ (job : Job) (weights : List ℕ) (lent : Lent) (ok : Accepted job weigh
   right-entries = smallest-none _ _ (λ x l. right-entry x (rw low-length at l))
 
   -- ---- so the level's two conditions are left
-  level-alone : (level : ℤ) → quantiles low high level .answer
-      ≡ firstOf (condition (wrongLevel level) 32 0 ∷ condition (unreached low level) 34 0 ∷ [])
-  unfolding quantiles firstOf
-  level-alone level = rw (right-lengths, le-ltb _ _ (NL.le-of-eq (sym right-entries)))
+  level-alone : (row : List ℤ) (number : ℕ) (level : ℤ) → queryBy row number low high level .answer
+      ≡ firstOf (condition (wrongLevel level) 32 0 ∷ reachCondition row number level ∷ [])
+  unfolding firstOf
+  level-alone row number level = rw (right-lengths, le-ltb _ _ (NL.le-of-eq (sym right-entries)))
 
 pub rows-not-refused : RowsNotRefused
-rows-not-refused = level-alone
+unfolding sureQuery possibleQuery
+rows-not-refused job weights lent ok level = (level-alone job weights lent ok _ 34 level, level-alone job weights lent ok _ 35 level)
 
 pub rows-enclose : RowsEnclose
 rows-enclose = enclosed
 
 pub encloses-quantile : EnclosesQuantile
-encloses-quantile job weights lent ok h p s t level asked =
-    quantile-enclosed _ _ level (amount job weights h p) asked (enclosed job weights lent ok h p s t)
+encloses-quantile job weights lent ok h p s t level =
+    quantile-enclosed _ _ level (amount job weights h p) (enclosed job weights lent ok h p s t)

@@ -1,4 +1,4 @@
--- What a level query on the rows of an accepted job says of the job's exact amounts.
+-- What the level queries on the rows of an accepted job say of the job's exact amounts.
 use mathlib.Core.Path.{_≡_}
 use mathlib.Core.List.{List, [], _∷_}
 use Prim.Native.Nat.{ℕ, _+_}
@@ -11,8 +11,8 @@ use Rattle.exact.specs.JobAmount.{Divisible, amount}
 use Rattle.rows.specs.Layout.{Lent}
 use Rattle.compound.specs.Call.{curveLent}
 use Rattle.intervals.specs.Amounts.{Enclose}
-use Rattle.quantile.specs.Call.{wrongLevel, unreached, quantiles}
-use Rattle.quantile.specs.Enclosed.{QuantileFrom, Accepted as QueryAccepted}
+use Rattle.quantile.specs.Call.{wrongLevel, reachCondition, sureQuery, possibleQuery}
+use Rattle.quantile.specs.Enclosed.{QueriesTrue}
 use Rattle.accuracy.specs.Accuracy.{Accepted}
 
 -- the first X+1 places of the lent rows on return
@@ -22,23 +22,25 @@ lows job weights lent = take (job .last + 1) (curveLent job weights lent .low)
 abbrev pub highs : Job → List ℕ → Lent → List ℤ
 highs job weights lent = take (job .last + 1) (curveLent job weights lent .high)
 
--- of a query's four conditions only 32, its level, and 34, a level that their sums do not reach, can hold on them
+-- of a query's four conditions only 32, its level, and its own, 34 or 35, a level that their sums do not reach, can hold on them
 abbrev pub RowsNotRefused : Type 0
 RowsNotRefused = (job : Job) (weights : List ℕ) (lent : Lent) → Accepted job weights lent → (level : ℤ)
-    → quantiles (lows job weights lent) (highs job weights lent) level .answer
-    ≡ firstOf (condition (wrongLevel level) 32 0 ∷ condition (unreached (lows job weights lent) level) 34 0 ∷ [])
+    → let low = lows job weights lent in
+    let high = highs job weights lent in
+    (sureQuery low high level .answer ≡ firstOf (condition (wrongLevel level) 32 0 ∷ reachCondition low 34 level ∷ []))
+    × (possibleQuery low high level .answer ≡ firstOf (condition (wrongLevel level) 32 0 ∷ reachCondition high 35 level ∷ []))
 
--- the exact amounts for a starting chance lie from low to high, at each total of the rows
+-- what is said of them and of the exact amounts, for every starting chance from s to t, whole or fraction, ends included
+abbrev pub OfEveryStart : (List ℤ → List ℤ → (ℕ → Fraction) → Type 0) → Type 0
+OfEveryStart Said = (job : Job) (weights : List ℕ) (lent : Lent) → Accepted job weights lent
+    → (h : Divisible job weights) (p : Fraction) → whole (pos (job .start .low)) ≼ p → p ≼ whole (pos (job .start .high))
+    → Said (lows job weights lent) (highs job weights lent) (amount job weights h p)
+
+-- the exact amounts lie from low to high, at each total of the rows
 abbrev pub RowsEnclose : Type 0
-RowsEnclose = (job : Job) (weights : List ℕ) (lent : Lent) → Accepted job weights lent
-    → (h : Divisible job weights) (p : Fraction) → whole (pos (job .start .low)) ≼ p → p ≼ whole (pos (job .start .high))
-    → Enclose (lows job weights lent) (highs job weights lent) (amount job weights h p)
+RowsEnclose = OfEveryStart Enclose
 
--- where a query on them is accepted, the exact amounts have a quantile and it lies from possible to sure, for every starting chance from s
--- to t, whole or fraction, ends included
+-- what the queries tell is true of the exact amounts: where sure is accepted these have a quantile, and it lies from possible to sure; where
+-- possible alone is, a quantile of theirs is at least possible; after 35 no sum of theirs from 0 to a total up to X reaches the level
 abbrev pub EnclosesQuantile : Type 0
-EnclosesQuantile = (job : Job) (weights : List ℕ) (lent : Lent) → Accepted job weights lent
-    → (h : Divisible job weights) (p : Fraction) → whole (pos (job .start .low)) ≼ p → p ≼ whole (pos (job .start .high))
-    → (level : ℤ) → QueryAccepted (lows job weights lent) (highs job weights lent) level
-    → QuantileFrom (quantiles (lows job weights lent) (highs job weights lent) level .possible)
-    (quantiles (lows job weights lent) (highs job weights lent) level .sure) (amount job weights h p) level
+EnclosesQuantile = OfEveryStart (λ low high amounts. (level : ℤ) → QueriesTrue low high level amounts)

@@ -1,5 +1,5 @@
-// The level query. Its record: the number of lows, the lows, the number of highs, the highs, and the level. Its line: number, place, sure
-// and possible.
+// The level queries. Their record: the number of lows, the lows, the number of highs, the highs, and the level. Their line: number, place
+// and total of sure, and then of possible.
 
 use crate::input;
 use crate::show;
@@ -8,22 +8,23 @@ use quantile::QuantileAnswer;
 // More places than a query takes.
 const PLACES: usize = 512;
 
-fn show_totals(sure: usize, possible: usize) {
-    show::next(sure as u64);
-    show::next(possible as u64);
-}
-
 fn show_answer(answer: QuantileAnswer) {
     match answer {
-        QuantileAnswer::Totals { sure, possible } => {
+        QuantileAnswer::Total(total) => {
             show::answer(0, 0);
-            show_totals(sure, possible);
+            show::next(total as u64);
         }
         QuantileAnswer::Refused(reason, place) => {
             show::answer(quantile::reason_number(reason), place);
-            show_totals(0, 0);
+            show::next(0);
         }
     }
+}
+
+fn show_queries(low: &[i64], high: &[i64], level: i64) {
+    show_answer(quantile::sure(low, high, level));
+    show::text(b" ");
+    show_answer(quantile::possible(low, high, level));
 }
 
 pub fn run() {
@@ -31,6 +32,6 @@ pub fn run() {
     let lows = input::signed_numbers(&mut low);
     let mut high = [0i64; PLACES];
     let highs = input::signed_numbers(&mut high);
-    show_answer(quantile::quantile(&low[..lows], &high[..highs], input::signed()));
+    show_queries(&low[..lows], &high[..highs], input::signed());
     show::text(b"\n");
 }

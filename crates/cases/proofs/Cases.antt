@@ -23,7 +23,7 @@ use Rattle.rows.specs.Curve.{factor, sumsZero, sumsNext, entryAt, withNext, his
 use Rattle.rows.specs.Layout.{Lent, lentRows}
 use Rattle.rows.specs.Faults.{firstFault, rangeFault}
 use Rattle.compound.specs.Call.{curveAnswer, rowAfter, curveLent}
-use Rattle.quantile.specs.Call.{Quantiles, quantileOf, quantiles}
+use Rattle.quantile.specs.Call.{Found, quantileOf, sureQuery, possibleQuery}
 use Rattle.text.specs.Bytes.{ascii}
 use Rattle.text.specs.Lines.{before, after, has, afterLines, longer, words, spaced}
 use Rattle.text.specs.Numbers.{valueFrom, number, digitsWithin, decimal}
@@ -38,7 +38,7 @@ use Rattle.report.specs.Report.{curveText, reportText}
 use Rattle.cases.specs.Cases.{Case, curve, reader, level, mean, trials, panjerWillmot, hesselager, program, Holds, cases}
 use Rattle.cases.specs.Cases.{CasesHold, test}
 use Rattle.cases.specs.Cases.{numbers, sameAnswer, sameRow, rows, sameLent, wholeNumbers, terms, sameBytes, sameTold}
-use Rattle.cases.specs.Cases.{partNumbers, samePart, queryNumbers, sameQuantiles, endNumbers, sameStarted}
+use Rattle.cases.specs.Cases.{partNumbers, samePart, foundNumbers, sameFound, endNumbers, sameStarted}
 use Rattle.cases.specs.Cases.{madeNumbers, madeTerms, sameMade}
 
 same-answer : Equates Answer sameAnswer
@@ -85,10 +85,9 @@ same-told x y t =
 same-part : Equates Part samePart
 same-part x y t = ap (λ l. partOf (getD l 0 0) (getD l 1 0)) (same-bytes (partNumbers x) (partNumbers y) t)
 
-same-quantiles : Equates Quantiles sameQuantiles
-same-quantiles x y t =
-    ap (λ l. record { answer = refused (getD l 0 0) (getD l 1 0); sure = getD l 2 0; possible = getD l 3 0 })
-    (same-bytes (queryNumbers x) (queryNumbers y) t)
+same-found : Equates Found sameFound
+same-found x y t =
+    ap (λ l. record { answer = refused (getD l 0 0) (getD l 1 0); total = getD l 2 0 }) (same-bytes (foundNumbers x) (foundNumbers y) t)
 
 -- an answer and a start, from the lists that are compared
 startedBy : Answer → List ℤ → Started
@@ -157,7 +156,16 @@ sound (reader s row says after word part) t =
 
     placed : Bool
     placed = samePart (faultyPart (length row) s) part
-sound (level low high L answer) t = same-quantiles (quantiles low high L) answer t
+sound (level low high L sure possible) t = (
+  same-found (sureQuery low high L) sure (and-left surely possibly t),
+  same-found (possibleQuery low high L) possible (and-right surely possibly t),
+)
+  where
+    surely : Bool
+    surely = sameFound (sureQuery low high L) sure
+
+    possibly : Bool
+    possibly = sameFound (possibleQuery low high L) possible
 sound (mean r s answer) t = same-started (startOfMean r s) answer t
 sound (trials r s N answer) t = same-started (startOfTrials r s N) answer t
 sound (panjerWillmot α₀ α₁ β₀ β₁ answer) t = same-made (lawOfPanjerWillmot α₀ α₁ β₀ β₁) answer t
@@ -170,7 +178,7 @@ unfolding curveAnswer curveLent rowAfter rangeFault firstFault curveRows history
     firstOf ceilDiv floorDiv accumulate smallest listed
     reading lawLine termLines startLine lastLine severityLine weightLines line allNumbers firstNoNumber firstPart
     number valueFrom words longer afterLines before after has
-    quantiles quantileOf
+    sureQuery possibleQuery quantileOf
     startOfMean startOfTrials ofMean ofTrials series term repeated times
     lawOfLine
     reportText curveText totalLines lineText spaced decimal digitsWithin

@@ -19,7 +19,7 @@ use Rattle.start.specs.Call.{Started, startOfMean, startOfTrials}
 use Rattle.published.specs.Call.{Made, lawOfPanjerWillmot, lawOfHesselager}
 use Rattle.rows.specs.Layout.{Lent, lentRows}
 use Rattle.compound.specs.Call.{curveAnswer, curveLent}
-use Rattle.quantile.specs.Call.{Quantiles, quantiles}
+use Rattle.quantile.specs.Call.{Found, sureQuery, possibleQuery}
 use Rattle.text.specs.Bytes.{ascii}
 use Rattle.grammar.specs.Reading.{reading}
 use Rattle.sheet.specs.Call.{Told, told, rowOnReturn}
@@ -33,8 +33,8 @@ pub data Case : Type 0 where
   curve : Job → List ℕ → Lent → Answer → Lent → Case
   -- the sheet's bytes and the lent row at entry, what the reader tells, the row on return, the faulty word and where it stands
   reader : List ℕ → List ℕ → Told → List ℕ → List ℕ → Part → Case
-  -- the low row, the high row and the level, the answer with its two totals
-  level : List ℤ → List ℤ → ℤ → Quantiles → Case
+  -- the low row, the high row and the level, what sure tells and what possible tells
+  level : List ℤ → List ℤ → ℤ → Found → Found → Case
   -- the mean's upper and lower number, and the answer with its start
   mean : ℕ → ℕ → Started → Case
   -- the chance's upper and lower number and the number of trials, likewise
@@ -52,7 +52,7 @@ Holds (curve job weights lent answer after) = (curveAnswer job weights lent ≡ 
 Holds (reader s row says after word part) =
     (told (reading (length row) s) ≡ says) × (rowOnReturn (reading (length row) s) row ≡ after)
     × (faultyWord (length row) s ≡ word) × (faultyPart (length row) s ≡ part)
-Holds (level low high L answer) = quantiles low high L ≡ answer
+Holds (level low high L sure possible) = (sureQuery low high L ≡ sure) × (possibleQuery low high L ≡ possible)
 Holds (mean r s answer) = startOfMean r s ≡ answer
 Holds (trials r s N answer) = startOfTrials r s N ≡ answer
 Holds (panjerWillmot α₀ α₁ β₀ β₁ answer) = lawOfPanjerWillmot α₀ α₁ β₀ β₁ ≡ answer
@@ -111,13 +111,16 @@ refusal s number line word start count =
     (ascii word) (partOf start count)
 
 -- ---- level queries
--- "Otherwise two totals"
-abbrev totals : (sure possible : ℕ) → Quantiles
-totals sure possible = record { answer = accepted; sure = sure; possible = possible }
+abbrev found : (total : ℕ) → Found
+found total = record { answer = accepted; total = total }
 
--- a refusal's totals are 0
-abbrev noTotals : (number place : ℕ) → Quantiles
-noTotals number place = record { answer = refused number place; sure = 0; possible = 0 }
+-- a refusal's total is 0
+abbrev notFound : (number place : ℕ) → Found
+notFound number place = record { answer = refused number place; total = 0 }
+
+-- "Checks 31 to 33 stay in both"
+abbrev bothRefuse : (low high : List ℤ) (L : ℤ) (number place : ℕ) → Case
+bothRefuse low high L number place = level low high L (notFound number place) (notFound number place)
 
 -- ---- starts
 abbrev started : (low high : ℕ) → Started
@@ -252,25 +255,29 @@ cases =
     -- "bytes after the last `W` line give 26"
     ∷ refusal (sheet "TERM 0 1" "W 1\nW 1") 26 8 "" 0 0
     -- P9: "rows of P1, L 500000000: sure 1, possible 1"
-    ∷ level lowP1 highP1 (pos 500000000) (totals 1 1)
-    -- P10: "L 900000000: 34"
-    ∷ level lowP1 highP1 (pos 900000000) (noTotals 34 0)
+    ∷ level lowP1 highP1 (pos 500000000) (found 1) (found 1)
+    -- P10: "L 900000000: 34", and the highs, which have 881377831 together, do not reach it either
+    ∷ level lowP1 highP1 (pos 900000000) (notFound 34 0) (notFound 35 0)
     -- at total 1 the lows have 551819161 together, the highs 551819163
-    ∷ level lowP1 highP1 (pos 551819163) (totals 2 1)
+    ∷ level lowP1 highP1 (pos 551819163) (found 2) (found 1)
+    -- the lows fall short, by 5 units at the last total, and the highs do not; with one unit more the highs do too
+    ∷ level lowP1 highP1 (pos 881377831) (notFound 34 0) (found 3)
+    ∷ level lowP1 highP1 (pos 881377832) (notFound 34 0) (notFound 35 0)
     -- "rows empty, unequal in length or longer than 501"; 31 comes before 32
-    ∷ level [] [] (pos 0) (noTotals 31 0)
-    ∷ level lowP1 [] (pos 500000000) (noTotals 31 0)
-    ∷ level (replicate 502 (pos 1)) (replicate 502 (pos 1)) (pos 1) (noTotals 31 0)
+    ∷ bothRefuse [] [] (pos 0) 31 0
+    ∷ bothRefuse lowP1 [] (pos 500000000) 31 0
+    ∷ bothRefuse (replicate 502 (pos 1)) (replicate 502 (pos 1)) (pos 1) 31 0
     -- "L not 1 to U"; 501 places are not too many, and 32 comes before 33
-    ∷ level (replicate 501 (pos 1)) (replicate 501 (pos 1)) (pos 0) (noTotals 32 0)
-    ∷ level highP1 lowP1 (pos 0) (noTotals 32 0)
-    ∷ level lowP1 highP1 (pos 1000000001) (noTotals 32 0)
-    -- "at the smallest place x, an entry outside -2U to 2U or low above high"; 33 comes before 34, and 2U itself is no fault
-    ∷ level (pos 0 ∷ negℤ (pos 2000000001) ∷ pos 1 ∷ []) (pos 0 ∷ pos 0 ∷ pos 0 ∷ []) (pos 1) (noTotals 33 1)
-    ∷ level (pos 0 ∷ pos 1 ∷ pos 1 ∷ []) (pos 0 ∷ pos 0 ∷ pos 2000000001 ∷ []) (pos 1) (noTotals 33 1)
-    ∷ level (negℤ (pos 2000000000) ∷ pos 2000000000 ∷ []) (pos 2000000000 ∷ pos 2000000000 ∷ []) (pos 1000000000) (noTotals 34 0)
+    ∷ bothRefuse (replicate 501 (pos 1)) (replicate 501 (pos 1)) (pos 0) 32 0
+    ∷ bothRefuse highP1 lowP1 (pos 0) 32 0
+    ∷ bothRefuse lowP1 highP1 (pos 1000000001) 32 0
+    -- "at the smallest place x, an entry outside -2U to 2U or low above high"; 33 comes before 34 and 35, and 2U itself is no fault
+    ∷ bothRefuse (pos 0 ∷ negℤ (pos 2000000001) ∷ pos 1 ∷ []) (pos 0 ∷ pos 0 ∷ pos 0 ∷ []) (pos 1) 33 1
+    ∷ bothRefuse (pos 0 ∷ pos 1 ∷ pos 1 ∷ []) (pos 0 ∷ pos 0 ∷ pos 2000000001 ∷ []) (pos 1) 33 1
+    ∷ level (negℤ (pos 2000000000) ∷ pos 2000000000 ∷ []) (pos 2000000000 ∷ pos 2000000000 ∷ []) (pos 1000000000)
+    (notFound 34 0) (found 0)
     -- a sum that reaches the level and falls again
-    ∷ level (pos 2 ∷ negℤ (pos 5) ∷ []) (pos 2 ∷ negℤ (pos 5) ∷ []) (pos 2) (totals 0 0)
+    ∷ level (pos 2 ∷ negℤ (pos 5) ∷ []) (pos 2 ∷ negℤ (pos 5) ∷ []) (pos 2) (found 0) (found 0)
     -- P1's law is that of mean 1, and P2's that of two trials of chance 1/2
     ∷ mean 1 1 (started 367879441 367879442)
     ∷ trials 1 2 2 (started 250000000 250000000)
@@ -360,11 +367,11 @@ abbrev pub samePart : Part → Part → Bool
 samePart x y = sameBytes (partNumbers x) (partNumbers y)
 
 -- a query's answer, as a list
-abbrev pub queryNumbers : Quantiles → List ℕ
-queryNumbers x = x .answer .number ∷ x .answer .place ∷ x .sure ∷ x .possible ∷ []
+abbrev pub foundNumbers : Found → List ℕ
+foundNumbers x = x .answer .number ∷ x .answer .place ∷ x .total ∷ []
 
-abbrev pub sameQuantiles : Quantiles → Quantiles → Bool
-sameQuantiles x y = sameBytes (queryNumbers x) (queryNumbers y)
+abbrev pub sameFound : Found → Found → Bool
+sameFound x y = sameBytes (foundNumbers x) (foundNumbers y)
 
 abbrev pub endNumbers : Started → List ℤ
 endNumbers x = x .ends .low ∷ x .ends .high ∷ []
@@ -389,7 +396,7 @@ test (reader s row says after word part) =
     sameTold (told (reading (length row) s)) says
     && (sameBytes (rowOnReturn (reading (length row) s) row) after
     && (sameBytes (faultyWord (length row) s) word && samePart (faultyPart (length row) s) part))
-test (level low high L answer) = sameQuantiles (quantiles low high L) answer
+test (level low high L sure possible) = sameFound (sureQuery low high L) sure && sameFound (possibleQuery low high L) possible
 test (mean r s answer) = sameStarted (startOfMean r s) answer
 test (trials r s N answer) = sameStarted (startOfTrials r s N) answer
 test (panjerWillmot α₀ α₁ β₀ β₁ answer) = sameMade (lawOfPanjerWillmot α₀ α₁ β₀ β₁) answer

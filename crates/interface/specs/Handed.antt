@@ -6,7 +6,7 @@ use lib.ListN.{take, getD}
 use Rattle.model.specs.declared.Job.{Job}
 use Rattle.model.specs.Job.{lawOf, startOf, jobOf}
 use Rattle.model.specs.Answer.{Answer}
-use Rattle.quantile.specs.Call.{Quantiles}
+use Rattle.quantile.specs.Call.{Found}
 use Rattle.sheet.specs.Call.{Told}
 use Rattle.start.specs.Call.{Started}
 use Rattle.published.specs.Call.{Made}
@@ -23,9 +23,9 @@ jobOfNumbers order divisor a b low high last = jobOf (lawOf order divisor a b) (
 abbrev pub tells : Answer → Job → ℕ → List ℕ → Told
 tells answer job count row = record { answer = answer; job = job; count = count; weights = take count row }
 
--- what the level query tells
-abbrev pub totals : Answer → ℕ → ℕ → Quantiles
-totals answer sure possible = record { answer = answer; sure = sure; possible = possible }
+-- what the level queries tell
+abbrev pub tellsTotal : Answer → ℕ → Found
+tellsTotal answer total = record { answer = answer; total = total }
 
 -- what the calls for a start tell
 abbrev pub tellsStart : Answer → ℕ → ℕ → Started

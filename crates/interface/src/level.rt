@@ -1,34 +1,19 @@
-// The level query.
+// The level queries.
 
 use quantile::QuantileAnswer;
-use quantile::quantile;
 use quantile::reason_number;
 ghost use mathlib.Core.Path.{_≡_};
-ghost use Rattle.quantile.specs.Call.{quantiles};
-ghost use Rattle.interface.specs.Handed.{returned, totals};
+ghost use Rattle.quantile.specs.Call.{paper, sureQuery, possibleQuery};
+ghost use Rattle.interface.specs.Handed.{returned, tellsTotal};
 
-#[no_mangle]
-pub extern "C" fn claimtotals_quantile(
-    low: &[i64],
-    high: &[i64],
-    level: i64,
-    place: &mut usize,
-    sure: &mut usize,
-    possible: &mut usize,
-) -> u64
-    ensures { λ r. ⌜ totals (returned r (now (place .exit))) (now (sure .exit)) (now (possible .exit))
-        ≡ quantiles (now (low .entry)) (now (high .entry)) level ⌝ }
+fn hand_over(answer: QuantileAnswer, place: &mut usize, total: &mut usize) -> u64
+    ensures { λ r. ⌜ tellsTotal (returned r (now (place .exit))) (now (total .exit)) ≡ paper answer ⌝ }
 {
     *place = 0;
-    *sure = 0;
-    *possible = 0;
-    match quantile(low, high, level) {
-        QuantileAnswer::Totals {
-            sure: by_lows,
-            possible: by_highs,
-        } => {
-            *sure = by_lows;
-            *possible = by_highs;
+    *total = 0;
+    match answer {
+        QuantileAnswer::Total(found) => {
+            *total = found;
             0
         }
         QuantileAnswer::Refused(reason, at) => {
@@ -36,4 +21,32 @@ pub extern "C" fn claimtotals_quantile(
             reason_number(reason)
         }
     }
+}
+
+#[no_mangle]
+pub extern "C" fn claimtotals_sure(
+    low: &[i64],
+    high: &[i64],
+    level: i64,
+    place: &mut usize,
+    total: &mut usize,
+) -> u64
+    ensures { λ r. ⌜ tellsTotal (returned r (now (place .exit))) (now (total .exit))
+        ≡ sureQuery (now (low .entry)) (now (high .entry)) level ⌝ }
+{
+    hand_over(quantile::sure(low, high, level), place, total)
+}
+
+#[no_mangle]
+pub extern "C" fn claimtotals_possible(
+    low: &[i64],
+    high: &[i64],
+    level: i64,
+    place: &mut usize,
+    total: &mut usize,
+) -> u64
+    ensures { λ r. ⌜ tellsTotal (returned r (now (place .exit))) (now (total .exit))
+        ≡ possibleQuery (now (low .entry)) (now (high .entry)) level ⌝ }
+{
+    hand_over(quantile::possible(low, high, level), place, total)
 }

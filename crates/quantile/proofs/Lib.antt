@@ -1,2 +1,3 @@
--- Quantiles of exact amounts.
+-- The answers of the two calls (`Joined`); quantiles of exact amounts (`Enclosed`).
+pub mod Joined
 pub mod Enclosed

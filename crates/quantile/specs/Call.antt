@@ -1,6 +1,6 @@
--- The level query: "Takes a low row, a high row and a level L."
+-- The level query, in two calls, sure and possible. Each "takes a low row, a high row and a level L", and answers one total.
 use mathlib.Core.Bool.{Bool, _||_, cond}
-use mathlib.Core.List.{List, [], _∷_}
+use mathlib.Core.List.{List, [], _∷_, _++_}
 use Prim.Native.Nat.{ℕ, suc}
 use lib.Dec.{eqb}
 use lib.IntN.{ℤ, pos}
@@ -12,27 +12,27 @@ use Rattle.model.specs.Answer.{Answer, Condition, accepted, refused, isAccepted
 use Rattle.model.specs.Limits.{unit}
 use Rattle.intervals.specs.Checks.{rowsCondition, entryCondition}
 use Rattle.quantile.specs.declared.Reason.{Reason}
-use Rattle.quantile.specs.declared.Reason.the-variants.{Rows, Level, Entry, Unreached}
+use Rattle.quantile.specs.declared.Reason.the-variants.{Rows, Level, Entry, LowsShort, HighsShort}
 use Rattle.quantile.specs.declared.QuantileAnswer.{QuantileAnswer}
-use Rattle.quantile.specs.declared.QuantileAnswer.the-variants.{Totals, Refused}
+use Rattle.quantile.specs.declared.QuantileAnswer.the-variants.{Total, Refused}
 
 -- ---- the answer
 abbrev pub numberOf : Reason → ℕ
 numberOf Rows = 31
 numberOf Level = 32
 numberOf Entry = 33
-numberOf Unreached = 34
+numberOf LowsShort = 34
+numberOf HighsShort = 35
 
--- "Otherwise two totals", the paper's "sure" and "possible"
-pub record Quantiles : Type 0 where
+-- what a call tells
+pub record Found : Type 0 where
   pub answer : Answer
-  pub sure : ℕ
-  pub possible : ℕ
+  pub total : ℕ
 
 -- what the paper says for each answer of the code; after a refusal "the other numbers in its answer are 0"
-abbrev pub paper : QuantileAnswer → Quantiles
-paper (Totals sure possible) = record { answer = accepted; sure = sure; possible = possible }
-paper (Refused reason place) = record { answer = refused (numberOf reason) place; sure = 0; possible = 0 }
+abbrev pub paper : QuantileAnswer → Found
+paper (Total total) = record { answer = accepted; total = total }
+paper (Refused reason place) = record { answer = refused (numberOf reason) place; total = 0 }
 
 -- ---- the search
 -- the sum of a row's entries "from 0 to" x
@@ -49,23 +49,32 @@ quantileOf row level = smallest (λ x. leZ level (runningSum row x)) (length row
 abbrev pub wrongLevel : ℤ → Bool
 wrongLevel level = ltZ level (pos 1) || ltZ (pos unit) level
 
--- 34: "no total has a sum of lows, from 0 to it, of L or more", so that the search comes to the row's end
-abbrev pub unreached : List ℤ → ℤ → Bool
-unreached low level = eqb (quantileOf low level) (length low)
-
+-- "Checks 31 to 33 stay in both"
 abbrev pub checks : List ℤ → List ℤ → ℤ → List Condition
-checks low high level =
-    rowsCondition low high
-    ∷ condition (wrongLevel level) 32 0
-    ∷ entryCondition low high
-    ∷ condition (unreached low level) 34 0
-    ∷ []
+checks low high level = rowsCondition low high ∷ condition (wrongLevel level) 32 0 ∷ entryCondition low high ∷ []
 
--- ---- the call
--- the totals of an acceptance; after a refusal they are 0
-abbrev pub answered : Answer → ℕ → ℕ → Quantiles
-answered answer sure possible =
-    record { answer = answer; sure = cond (isAccepted answer) sure 0; possible = cond (isAccepted answer) possible 0 }
+-- 34, of the lows: "no total has a sum of lows, from 0 to it, of L or more"; 35, of the highs: "when no sum of highs reaches L". The search
+-- then comes to the row's end.
+abbrev pub unreached : List ℤ → ℤ → Bool
+unreached row level = eqb (quantileOf row level) (length row)
 
-unfoldable pub quantiles : List ℤ → List ℤ → ℤ → Quantiles
-quantiles low high level = answered (firstOf (checks low high level)) (quantileOf low level) (quantileOf high level)
+abbrev pub reachCondition : (row : List ℤ) (number : ℕ) (level : ℤ) → Condition
+reachCondition row number level = condition (unreached row level) number 0
+
+-- ---- the calls
+-- the total of an acceptance; after a refusal it is 0
+abbrev pub answered : Answer → ℕ → Found
+answered answer total = record { answer = answer; total = cond (isAccepted answer) total 0 }
+
+-- a call by one of the two rows; `number` refuses where no sum of this row reaches L
+abbrev pub queryBy : (row : List ℤ) (number : ℕ) (low high : List ℤ) (level : ℤ) → Found
+queryBy row number low high level =
+    answered (firstOf (checks low high level ++ reachCondition row number level ∷ [])) (quantileOf row level)
+
+-- sure, "the smallest whose sum of lows reaches L"; "34 belongs to sure"
+unfoldable pub sureQuery : List ℤ → List ℤ → ℤ → Found
+sureQuery low high level = queryBy low 34 low high level
+
+-- possible, "the smallest whose sum of highs does"; "It refuses with 35, in the possible call and after the others"
+unfoldable pub possibleQuery : List ℤ → List ℤ → ℤ → Found
+possibleQuery low high level = queryBy high 35 low high level

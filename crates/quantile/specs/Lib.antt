@@ -1,3 +1,4 @@
--- The level query (`Call`), and what its totals say of exact amounts (`Enclosed`).
+-- The two level queries (`Call`), and what their totals say of exact amounts (`Enclosed`); `Checked` serves the contract of the checks.
 pub mod Call
+pub mod Checked
 pub mod Enclosed

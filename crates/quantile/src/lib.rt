@@ -1,14 +1,18 @@
-// The level query: the total up to which the chances of a curve reach a level, surely (by the lows) and possibly (by the highs).
+// Level queries: the total up to which the chances of a curve reach a level, surely (by the lows) or possibly (by the highs).
 
 mod check;
 mod search;
 
-use intervals::are_wrong_rows;
-use intervals::first_wrong_entry;
+use check::Check;
+use check::checked;
+use search::quantile_of;
 ghost use mathlib.Core.Path.{_≡_};
-ghost use Rattle.quantile.specs.Call.{numberOf, paper, quantiles};
+ghost use mathlib.Core.List.{[], _∷_};
+ghost use Rattle.model.specs.Answer.{firstOf};
+ghost use Rattle.intervals.specs.Checks.{Summable};
+ghost use Rattle.quantile.specs.Call.{numberOf, paper, quantileOf, reachCondition, answered, sureQuery, possibleQuery};
 
-// Why the query refuses.
+// Why a query refuses.
 pub enum Reason {
     // 31: rows empty, unequal in length or longer than 501.
     Rows,
@@ -16,13 +20,14 @@ pub enum Reason {
     Level,
     // 33: an entry outside -2U to 2U, or a low above its high.
     Entry,
-    // 34: no sum of lows reaches the level.
-    Unreached,
+    // 34, of sure: no sum of lows reaches the level.
+    LowsShort,
+    // 35, of possible: no sum of highs reaches the level.
+    HighsShort,
 }
 
 pub enum QuantileAnswer {
-    // The paper's "sure", by the lows, and its "possible", by the highs.
-    Totals { sure: usize, possible: usize },
+    Total(usize),
     // The reason and its place: that of the first wrong entry, and 0 for the other reasons.
     Refused(Reason, usize),
 }
@@ -35,28 +40,40 @@ pub fn reason_number(reason: Reason) -> u64
         Reason::Rows => 31,
         Reason::Level => 32,
         Reason::Entry => 33,
-        Reason::Unreached => 34,
+        Reason::LowsShort => 34,
+        Reason::HighsShort => 35,
     }
 }
 
-// The smallest total whose lows, summed from total 0, reach the level, and the smallest whose highs do.
-pub fn quantile(low: &[i64], high: &[i64], level: i64) -> QuantileAnswer
-    ensures { λ r. ⌜ paper r ≡ quantiles (now (low .entry)) (now (high .entry)) level ⌝ }
+// The total of a row, and the reason given where no sum of the row reaches the level.
+fn total_of(row: &[i64], level: i64, short: Reason) -> QuantileAnswer
+    requires { ⌜ Summable (now row) ⌝ }
+    ensures { λ r. ⌜ paper r ≡ answered (firstOf (reachCondition (now (row .entry)) (numberOf short) level ∷ []))
+        (quantileOf (now (row .entry)) level) ⌝ }
 {
-    if are_wrong_rows(low.len(), high.len()) {
-        return QuantileAnswer::Refused(Reason::Rows, 0);
+    let total = quantile_of(row, level);
+    if total == row.len() {
+        return QuantileAnswer::Refused(short, 0);
     }
-    if check::is_wrong_level(level) {
-        return QuantileAnswer::Refused(Reason::Level, 0);
+    QuantileAnswer::Total(total)
+}
+
+// The smallest total whose lows, summed from total 0, reach the level.
+pub fn sure(low: &[i64], high: &[i64], level: i64) -> QuantileAnswer
+    ensures { λ r. ⌜ paper r ≡ sureQuery (now (low .entry)) (now (high .entry)) level ⌝ }
+{
+    match checked(low, high, level) {
+        Check::Passed => total_of(low, level, Reason::LowsShort),
+        Check::Refused(reason, place) => QuantileAnswer::Refused(reason, place),
     }
-    let entry = first_wrong_entry(low, high);
-    if entry < low.len() {
-        return QuantileAnswer::Refused(Reason::Entry, entry);
+}
+
+// The smallest total whose highs, summed from total 0, reach the level. The lows need not.
+pub fn possible(low: &[i64], high: &[i64], level: i64) -> QuantileAnswer
+    ensures { λ r. ⌜ paper r ≡ possibleQuery (now (low .entry)) (now (high .entry)) level ⌝ }
+{
+    match checked(low, high, level) {
+        Check::Passed => total_of(high, level, Reason::HighsShort),
+        Check::Refused(reason, place) => QuantileAnswer::Refused(reason, place),
     }
-    let sure = search::quantile_of(low, level);
-    if sure == low.len() {
-        return QuantileAnswer::Refused(Reason::Unreached, 0);
-    }
-    let possible = search::quantile_of(high, level);
-    QuantileAnswer::Totals { sure, possible }
 }
