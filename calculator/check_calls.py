@@ -13,7 +13,7 @@ import cases_reader
 import cases_start
 from enclosed import outside
 from followed import another_law, off_hesselager, off_panjer_willmot
-from level import level_query
+from level import possible, sure
 from limits import LAST_TOTAL
 from outward import Lent, curve
 from published import law_hesselager, law_panjer_willmot
@@ -90,12 +90,14 @@ def curve_call(case):
 
 
 def level_call(case):
-    said = level_query(case.low, case.high, case.level)
+    """Both calls, sure first."""
+    given = case.low, case.high, case.level
+    of_lows, of_highs = sure(*given), possible(*given)
     return Call(
         case.name,
         words(3) + counted(case.low) + counted(case.high) + words(case.level),
-        line(said),
-        differences((case.number, case.place, case.sure, case.possible), said),
+        line([*of_lows, *of_highs]),
+        differences(case.sure, of_lows) + differences(case.possible, of_highs),
     )
 
 
@@ -167,7 +169,7 @@ def main():
         faults.append("stdin does not hold the cases' calls")
     if len(lines) != len(calls):
         faults.append(f"stdout has {len(lines)} lines for {len(calls)} calls")
-    kinds = (f"{len(cases_reader.CASES)} sheets, {len(cases_curve.CASES)} curves, {len(cases_level.CASES)} level queries, "
+    kinds = (f"{len(cases_reader.CASES)} sheets, {len(cases_curve.CASES)} curves, {len(cases_level.CASES)} levels, "
              f"{len(cases_start.MEANS) + len(cases_start.TRIALS)} starts, "
              f"{len(cases_published.PANJER_WILLMOT) + len(cases_published.HESSELAGER)} laws")
     print(*faults, f"calls: {kinds} set beside the calculator, {len(faults)} faults", sep="\n")
