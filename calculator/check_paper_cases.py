@@ -10,7 +10,7 @@ from inspect import signature
 from typing import NamedTuple
 
 from enclosed import outside
-from level import level_query
+from level import possible, sure
 from outward import Job, Lent, curve
 from program import output
 from published import law_hesselager, law_panjer_willmot
@@ -56,9 +56,12 @@ def on_reader(sheet, row):
     }
 
 
+def total_record(said):
+    return {"answer": answer(said.number, said.place), "total": said.total}
+
+
 def on_level(low, high, level):
-    said = level_query(low, high, level)
-    return {"answer": {"answer": answer(said.number, said.place), "sure": said.sure, "possible": said.possible}}
+    return {"sure": total_record(sure(low, high, level)), "possible": total_record(possible(low, high, level))}
 
 
 def start_record(said):
@@ -92,7 +95,7 @@ def on_program(sheet):
 
 
 # each with the number of rows that there are at least
-KINDS = {"curve": (on_curve, 17), "reader": (on_reader, 8), "level": (on_level, 13), "mean": (on_mean, 7), "trials": (on_trials, 10),
+KINDS = {"curve": (on_curve, 17), "reader": (on_reader, 8), "level": (on_level, 14), "mean": (on_mean, 7), "trials": (on_trials, 10),
          "panjerWillmot": (on_panjer_willmot, 9), "hesselager": (on_hesselager, 7), "program": (on_program, 5)}
 
 
