@@ -9,7 +9,7 @@ from collections import Counter
 from inspect import signature
 from typing import NamedTuple
 
-from enclosed import outside
+from enclosed import amounts_per_unit, outside
 from level import possible, sure
 from outward import Job, Lent, curve
 from program import output
@@ -244,8 +244,8 @@ def differences(row):
     faults = [f"{name}: the table has {stated!r}, the calculator {found!r}"
               for (name, found), stated in zip(said.items(), claims) if stated != found]
     if is_accepted_curve(row) and not faults:
-        job, weights, _ = given
-        faults += outside(job_of(job, weights), Lent(**said["lent rows"]))
+        job = job_of(*given[:2])
+        faults += outside(job, Lent(**said["lent rows"]), amounts_per_unit(job))
     return faults
 
 
