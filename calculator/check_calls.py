@@ -1,7 +1,8 @@
 """The calls that the program crates/calls makes, and what the calculator says to each. Checks that the calculator gives the answer that the
 case asks for, that the exact amounts of an accepted curve lie within its lows and highs and the exact chance of no claims within its start,
-that the law made from a customer's line follows this line, and that the program's files stdin and stdout hold just these calls and the
-calculator's answers; with --write it writes the files first."""
+that what sure and possible say of such a curve is true of its exact amounts, that the law made from a customer's line follows this line,
+and that the program's files stdin and stdout hold just these calls and the calculator's answers; with --write it writes the files
+first."""
 import pathlib
 import sys
 from typing import NamedTuple
@@ -11,12 +12,13 @@ import cases_level
 import cases_published
 import cases_reader
 import cases_start
-from enclosed import outside
+from enclosed import amounts_per_unit, outside
 from followed import another_law, off_hesselager, off_panjer_willmot
-from level import level_query
+from level import possible, sure
 from limits import LAST_TOTAL
 from outward import Lent, curve
 from published import law_hesselager, law_panjer_willmot
+from reached import untrue_totals
 from sheet import read_sheet
 from start import start_of_mean, start_of_trials
 from started import outside_mean, outside_trials
@@ -72,7 +74,9 @@ def curve_faults(case, said, lent):
     if case.rows:
         yield from differences(list(case.rows), [row[:case.job.last + 1] for row in (lent.low, lent.high, lent.bound)])
     if said == (0, 0):
-        yield from outside(case.job, lent, case.law, case.exact_to)
+        amounts = amounts_per_unit(case.job, case.law, case.exact_to)
+        yield from outside(case.job, lent, amounts)
+        yield from untrue_totals(case.job, lent, amounts)
 
 
 def curve_call(case):
@@ -90,12 +94,14 @@ def curve_call(case):
 
 
 def level_call(case):
-    said = level_query(case.low, case.high, case.level)
+    """Both calls, sure first."""
+    given = case.low, case.high, case.level
+    sure_said, possible_said = sure(*given), possible(*given)
     return Call(
         case.name,
         words(3) + counted(case.low) + counted(case.high) + words(case.level),
-        line(said),
-        differences((case.number, case.place, case.sure, case.possible), said),
+        line([*sure_said, *possible_said]),
+        differences(case.sure, sure_said) + differences(case.possible, possible_said),
     )
 
 
@@ -167,7 +173,7 @@ def main():
         faults.append("stdin does not hold the cases' calls")
     if len(lines) != len(calls):
         faults.append(f"stdout has {len(lines)} lines for {len(calls)} calls")
-    kinds = (f"{len(cases_reader.CASES)} sheets, {len(cases_curve.CASES)} curves, {len(cases_level.CASES)} level queries, "
+    kinds = (f"{len(cases_reader.CASES)} sheets, {len(cases_curve.CASES)} curves, {len(cases_level.CASES)} levels, "
              f"{len(cases_start.MEANS) + len(cases_start.TRIALS)} starts, "
              f"{len(cases_published.PANJER_WILLMOT) + len(cases_published.HESSELAGER)} laws")
     print(*faults, f"calls: {kinds} set beside the calculator, {len(faults)} faults", sep="\n")

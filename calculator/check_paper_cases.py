@@ -9,8 +9,8 @@ from collections import Counter
 from inspect import signature
 from typing import NamedTuple
 
-from enclosed import outside
-from level import level_query
+from enclosed import amounts_per_unit, outside
+from level import possible, sure
 from outward import Job, Lent, curve
 from program import output
 from published import law_hesselager, law_panjer_willmot
@@ -56,9 +56,12 @@ def on_reader(sheet, row):
     }
 
 
+def total_record(said):
+    return {"answer": answer(said.number, said.place), "total": said.total}
+
+
 def on_level(low, high, level):
-    said = level_query(low, high, level)
-    return {"answer": {"answer": answer(said.number, said.place), "sure": said.sure, "possible": said.possible}}
+    return {"sure": total_record(sure(low, high, level)), "possible": total_record(possible(low, high, level))}
 
 
 def start_record(said):
@@ -92,7 +95,7 @@ def on_program(sheet):
 
 
 # each with the number of rows that there are at least
-KINDS = {"curve": (on_curve, 17), "reader": (on_reader, 8), "level": (on_level, 13), "mean": (on_mean, 7), "trials": (on_trials, 10),
+KINDS = {"curve": (on_curve, 17), "reader": (on_reader, 8), "level": (on_level, 14), "mean": (on_mean, 7), "trials": (on_trials, 10),
          "panjerWillmot": (on_panjer_willmot, 9), "hesselager": (on_hesselager, 7), "program": (on_program, 5)}
 
 
@@ -241,8 +244,8 @@ def differences(row):
     faults = [f"{name}: the table has {stated!r}, the calculator {found!r}"
               for (name, found), stated in zip(said.items(), claims) if stated != found]
     if is_accepted_curve(row) and not faults:
-        job, weights, _ = given
-        faults += outside(job_of(job, weights), Lent(**said["lent rows"]))
+        job = job_of(*given[:2])
+        faults += outside(job, Lent(**said["lent rows"]), amounts_per_unit(job))
     return faults
 
 

@@ -4,13 +4,22 @@ from fractions import Fraction
 import exact
 
 
-def outside(job, rows, law=None, last=None):
-    """Exact amounts outside low to high, for both starts and one between, from total 0 to `last` (or X); and gaps above their bound. Where
-    no closed form of the law is given, its count coefficients come from its terms."""
+def starts(job):
+    """Both starts and one between."""
+    return sorted({job.low_start, Fraction(job.low_start + job.high_start, 2), job.high_start})
+
+
+def amounts_per_unit(job, law=None, last=None):
+    """The exact amounts for a starting chance of one unit, from total 0 to `last` (or X). Where no closed form of the law is given, its
+    count coefficients come from its terms."""
     law = law or exact.by_terms(job.divisor, job.a[:job.order], job.b[:job.order])
-    last = job.last if last is None else last
-    for x, amount in enumerate(exact.amounts(law, job.weights, 1, last)):
-        for start in (job.low_start, Fraction(job.low_start + job.high_start, 2), job.high_start):
+    return exact.amounts(law, job.weights, 1, job.last if last is None else last)
+
+
+def outside(job, rows, amounts):
+    """Exact amounts outside low to high, where `amounts` are those per unit of the start; and gaps above their bound."""
+    for x, amount in enumerate(amounts):
+        for start in starts(job):
             if not rows.low[x] <= start * amount <= rows.high[x]:
                 yield f"at {x}: the exact amount {start * amount} for the start {start} is not from {rows.low[x]} to {rows.high[x]}"
     for x in range(job.last + 1):

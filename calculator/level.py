@@ -1,4 +1,4 @@
-"""The level query as the paper lists it, in Python's whole numbers."""
+"""The calls sure and possible as the paper and Wish 5 list them, in Python's whole numbers."""
 from itertools import accumulate
 from typing import NamedTuple
 
@@ -6,23 +6,18 @@ from limits import MOST_END, MOST_TOTALS, UNIT
 
 
 class Answer(NamedTuple):
-    """Number 0 for an acceptance, the place, and the two totals (0 after a refusal)."""
+    """Number 0 for an acceptance, the place, and the total (0 after a refusal)."""
     number: int
     place: int
-    sure: int
-    possible: int
+    total: int
 
 
 def refused(number, place=0):
-    return Answer(number, place, 0, 0)
+    return Answer(number, place, 0)
 
 
-def reached(row, level):
-    """The totals at which the running sum is the level or more."""
-    return [total for total, so_far in enumerate(accumulate(row)) if so_far >= level]
-
-
-def level_query(low, high, level):
+def first_check(low, high, level):
+    """Refusals 31 to 33, which stay in both calls, or None."""
     if not low or len(low) != len(high) or len(low) > MOST_TOTALS:
         return refused(31)
     if not 1 <= level <= UNIT:
@@ -30,6 +25,20 @@ def level_query(low, high, level):
     for x, entry in enumerate(zip(low, high)):
         if any(abs(end) > MOST_END for end in entry) or entry[0] > entry[1]:
             return refused(33, x)
-    if not reached(low, level):
-        return refused(34)
-    return Answer(0, 0, min(reached(low, level)), min(reached(high, level)))
+    return None
+
+
+def smallest_reaching(row, level, otherwise):
+    """The smallest total whose sum, from 0 to it, is the level or more; where no total has one, the refusal `otherwise`."""
+    totals = [total for total, so_far in enumerate(accumulate(row)) if so_far >= level]
+    return Answer(0, 0, min(totals)) if totals else refused(otherwise)
+
+
+def sure(low, high, level):
+    """The smallest total whose sum of lows reaches the level."""
+    return first_check(low, high, level) or smallest_reaching(low, level, 34)
+
+
+def possible(low, high, level):
+    """The smallest total whose sum of highs reaches the level."""
+    return first_check(low, high, level) or smallest_reaching(high, level, 35)

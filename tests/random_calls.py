@@ -8,7 +8,7 @@ from typing import NamedTuple
 
 import random_sheets
 from followed import off_hesselager, off_panjer_willmot
-from level import level_query
+from level import possible, sure
 from limits import (LAST_TOTAL, MOST_DIVISOR, MOST_END, MOST_LOWER, MOST_MEAN, MOST_ORDER, MOST_SUM, MOST_TERM, MOST_TOTALS, MOST_TRIALS,
                     MOST_WEIGHTS, UNIT, WORK_COLUMNS)
 from outward import Job, Lent, curve
@@ -199,7 +199,7 @@ def word_call(r):
     ], 0, outcome)
 
 
-# ---- rows and levels for the level query
+# ---- rows and levels for sure and possible
 
 def curve_rows(r):
     """Lows and highs of a curve, if the job is accepted."""
@@ -215,6 +215,21 @@ def spread_rows(r):
     count = r.choice((1, 2, r.randint(1, 40), r.randint(1, MOST_TOTALS), MOST_TOTALS - 1, MOST_TOTALS))
     low = [r.randint(0, 2 * UNIT // count) for _ in range(count)]
     return low, [entry + r.choice((0, 0, 1, 3)) for entry in low]
+
+
+def short_rows(r):
+    """Highs that come to about U, and lows that fall short of them, by a unit or by far."""
+    count = r.choice((1, 2, r.randint(1, 40), MOST_TOTALS))
+    high = [r.randint(0, 2 * UNIT // count) for _ in range(count)]
+    share = r.choice((0, r.random()))
+    return [entry - r.choice((0, 1, int(share * entry))) for entry in high], high
+
+
+def falling_rows(r):
+    """Sums that fall again with the last entry."""
+    low, high = r.choice((spread_rows, short_rows))(r)
+    low[-1] = high[-1] = -r.choice((1, r.randint(1, UNIT), MOST_END))
+    return low, high
 
 
 def signed_rows(r):
@@ -256,25 +271,47 @@ def no_rows(_, low, high):
     high.clear()
 
 
+def last_level(r, low, high):
+    """The last that the lows reach, or the highs; one more; or a level that the highs alone reach."""
+    last_sure, last_possible = (max(accumulate(row)) for row in (low, high))
+    return r.choice((last_sure, last_sure + 1, r.randint(last_sure, last_possible), last_possible, last_possible + 1))
+
+
 def random_level(r, low, high):
-    """Often a sum of the rows, or next to one."""
-    sums = [total for row in (low, high) for total in accumulate(row) if 1 <= total <= UNIT]
-    if sums and r.random() < 0.7:
+    """Often about the last level of the rows; often a sum of theirs, or next to one."""
+    sums = [so_far for row in (low, high) for so_far in accumulate(row) if 1 <= so_far <= UNIT]
+    last, chance = last_level(r, low, high), r.random()
+    if chance < 0.4 and 0 <= last <= UNIT + 1:
+        return last
+    if chance < 0.8 and sums:
         return r.choice(sums) + r.choice((-1, 0, 0, 1))
-    return r.choice((0, 1, UNIT - 1, UNIT, UNIT + 1, -1, r.choice((LEAST, MOST, 2 ** 32 + 1)), r.randint(1, UNIT), r.randint(1, UNIT)))
+    return r.choice((0, 1, *near(UNIT), -1, r.choice((LEAST, MOST, 2 ** 32 + 1)), r.randint(1, UNIT), r.randint(1, UNIT)))
 
 
-def level_call(r):
-    low, high = r.choice((curve_rows, spread_rows, signed_rows))(r)
+def rows_and_level(r):
+    low, high = r.choice((curve_rows, spread_rows, short_rows, falling_rows, signed_rows))(r)
     level = random_level(r, low, high)
     if r.random() < 0.4:
         for _ in range(r.choice((1, 1, 2))):
             r.choice((wrong_entry, wrong_entry, wrong_entry, turned_entry, turned_entry, other_length, long_rows, no_rows))(r, low, high)
-    said = level_query(low, high, level)
-    return Call("claimtotals_quantile", [
+    return low, high, level
+
+
+def level_call(r, name, total_of):
+    low, high, level = rows_and_level(r)
+    said = total_of(low, high, level)
+    return Call(name, [
         ("low", read_only(SIGNED, low)), ("high", read_only(SIGNED, high)), ("level", level),
-        *((name, number_row(r, UNSIGNED, getattr(said, name))) for name in ("place", "sure", "possible")),
+        ("place", number_row(r, UNSIGNED, said.place)), ("total", number_row(r, UNSIGNED, said.total)),
     ], said.number, said.number)
+
+
+def sure_call(r):
+    return level_call(r, "claimtotals_sure", sure)
+
+
+def possible_call(r):
+    return level_call(r, "claimtotals_possible", possible)
 
 
 # ---- means, chances and trials for the start
@@ -379,8 +416,8 @@ def hesselager_call(r):
 
 
 def call(r):
-    kinds = {curve_call: 40, reader_call: 20, word_call: 15, level_call: 25, mean_call: 4, trials_call: 6, panjer_willmot_call: 4,
-             hesselager_call: 4}
+    kinds = {curve_call: 40, reader_call: 20, word_call: 15, sure_call: 13, possible_call: 13, mean_call: 4, trials_call: 6,
+             panjer_willmot_call: 4, hesselager_call: 4}
     return r.choices(list(kinds), list(kinds.values()))[0](r)
 
 
@@ -394,7 +431,8 @@ CAN_ARISE = {
     "claimtotals_curve": [0, 1, 2, 3, 4, 5, 6, 7, 8, 9, 10],
     "claimtotals_read_sheet": [0, 21, 22, 23, 24, 25, 26, 27],
     "claimtotals_faulty_word": ["none", "word", "empty word"],
-    "claimtotals_quantile": [0, 31, 32, 33, 34],
+    "claimtotals_sure": [0, 31, 32, 33, 34],
+    "claimtotals_possible": [0, 31, 32, 33, 35],
     "claimtotals_start_mean": [0, 41],
     "claimtotals_start_trials": [0, 41, 42, 43],
     "claimtotals_law_panjer_willmot": [0, 51, 52, 53],
