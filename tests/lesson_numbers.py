@@ -9,14 +9,16 @@ from itertools import accumulate, combinations, product
 from lesson import Law, both_round_to, cut, entries, evaluate, job, lines, rows
 
 import exact
-from level import level_query
-from limits import UNIT
+from level import possible, sure
+from limits import LAST_TOTAL, UNIT
 from nearest import nearest, nine_digits
 from outward import Job, outward, up
 from start import LAST_TERM
 
 # the lines that questions 2.4, 2.5 and 4.2 ask for
 START_2_4, W_2_5, LAST_4_2 = "START 1001 1001", "W 2", "LAST 500"
+# e^-1 to three digits
+START_WIDE = "START 367000000 368000000"
 
 HALF, THIRD, QUARTER, FIFTH = (Fraction(1, n) for n in (2, 3, 4, 5))
 E_1, E_HALF, E_QUARTER, E_4 = (Fraction(Context(prec=50).exp(Decimal(power))) for power in ("-1", "-0.5", "-0.25", "-4"))
@@ -26,6 +28,7 @@ PUMPS = exact.amounts(exact.binomial(3, Fraction(7, 10)), [2, 1], UNIT * Fractio
 TOSSES = exact.amounts(exact.binomial(2, HALF), [1], UNIT * HALF ** 2, 4)
 GROUPS = exact.amounts(exact.together(exact.binomial(5, FIFTH), exact.binomial(3, THIRD)), [3, 2, 1],
                        UNIT * (4 * FIFTH) ** 5 * (2 * THIRD) ** 3, 26)
+WINDOWS = exact.amounts(exact.poisson(1), [1, 1], UNIT * E_1, 20)
 ONLY_PAIRS = exact.amounts(exact.bunches(2, exact.poisson(HALF)), [1], UNIT * E_HALF, 6)
 MOWERS = exact.amounts(exact.binomial(14, 4 * FIFTH), [1, 3], UNIT * FIFTH ** 14, 28)
 TURNED = exact.amounts(exact.binomial(14, 2 * FIFTH), [1, 1], UNIT * (3 * FIFTH) ** 14, 28)
@@ -68,9 +71,116 @@ def poisson_table():
     beyond = UNIT - to_ten[1], UNIT - to_ten[0]
     yield (f"The lows add up to {to_ten[0]} and the highs to {to_ten[1]}. The chance of a total above 10 is what is missing to "
            f"{UNIT:,}: from {beyond[0]} to {beyond[1]} units. Write down {both_round_to(beyond, 7)}; to one digit more the two differ.")
-    _, _, sure, possible = level_query(low, high, UNIT * 99 // 100)
-    yield (f"Up to total {sure}. To total {possible - 1} even the highs add up to no more than {sums[1][possible - 1]}, to total {sure} "
-           f"the lows add up to {sums[0][sure]}.")
+
+
+# The levels of the lesson, in units.
+LEVEL_99, LEVEL_999, LEVEL_1 = UNIT * 99 // 100, UNIT * 999 // 1000, UNIT // 100
+
+
+def quantile(amounts, level):
+    """The first total where the sum of exact amounts reaches the level."""
+    return next(total for total, so_far in enumerate(accumulate(amounts)) if so_far >= level)
+
+
+def sure_and_possible(level, name, other=None):
+    """The two totals; a refusal in words."""
+    _, low, high, _ = map(list, zip(*rows(name, other)))
+    said = [call(low, high, level) for call in (sure, possible)]
+    return [f"refused by {answer.number}" if answer.number else answer.total for answer in said]
+
+
+def sums_to(total, name, other=None):
+    """Of the lows and of the highs."""
+    return [sum(row[side] for row in rows(name, other)[:total + 1]) for side in (1, 2)]
+
+
+def from_possible_to_sure(level):
+    """Whether the quantile of the windows lies there, by both starts; there may be no sure total."""
+    exact_total = quantile(WINDOWS, level)
+    pairs = [sure_and_possible(level, "poisson.txt", other) for other in (None, START_WIDE)]
+    return all(least <= exact_total and (most == "refused by 34" or exact_total <= most) for most, least in pairs)
+
+
+def poisson_levels():
+    table, (most, least) = rows("poisson.txt"), sure_and_possible(LEVEL_99, "poisson.txt")
+    yield f"add them up from total {table[0][0]} until the sum reaches the level {LEVEL_99 / UNIT}, which is {LEVEL_99} units."
+    inside = all(low <= amount <= high for (_, low, high, _), amount in zip(table, WINDOWS))
+    yield where(inside, f"**Sure** is the first total where the sum of lows reaches the level: {most}. No exact chance is below its low. "
+                        f"So whatever the chances are between low and high, their sum up to total {most} reaches the level too.")
+    before = least - 1
+    yield where(inside, f"**Possible** is the first total where the sum of highs reaches the level: {least} again. No exact chance is "
+                        f"above its high. So up to total {before} the chances add up to at most {sums_to(before, 'poisson.txt')[1]}, "
+                        f"which is less than the level: no total below {least} can be the quantile.")
+    yield where(all(map(from_possible_to_sure, range(UNIT // 1000, UNIT, UNIT // 1000))), "The quantile lies from possible to sure.")
+    yield where(most == least == quantile(WINDOWS, LEVEL_99), f"Here both are {most}, so it is known: it is {most}.")
+    most, least = sure_and_possible(LEVEL_999, "poisson.txt")
+    yield where(most == least == quantile(WINDOWS, LEVEL_999),
+                f"Up to total {most}. Up to total {least - 1} even the highs add up to less than {LEVEL_999}, up to total {most} even the "
+                f"lows to more: sure and possible are {most}.")
+
+
+def short_table():
+    """Both totals are refused."""
+    last = 5
+    low, high = sums_to(last, "poisson.txt")
+    neither = sure_and_possible(LEVEL_99, "poisson.txt", f"LAST {last}") == ["refused by 34", "refused by 35"]
+    yield f"Write `LAST {last}` in `poisson.txt`, and ask for the level {LEVEL_99 / UNIT}."
+    yield where(neither and high < LEVEL_99, "Possible is refused too, by 35, where even the highs of the whole table add up to less than "
+                                             "the level (question 1.5).")
+    yield where(neither, f"The lows of the whole table add up to {low}, so sure is refused by 34. The highs add up to {high}, so possible "
+                         f"is refused by 35. That says more: whatever the chances are between low and high, their sum reaches the level "
+                         f"at no total of this table.")
+    yield where(quantile(WINDOWS, LEVEL_99) > last,
+                f"So the quantile is above {last}. The table ends too early, and a larger LAST helps.")
+
+
+def wide_start():
+    """The two totals differ."""
+    (most, least), read = sure_and_possible(LEVEL_99, "poisson.txt", START_WIDE), job("poisson.txt", START_WIDE)
+    yield where(read.low_start < UNIT * E_1 < read.high_start,
+                f"Let only three digits of e^-1 be known, {cut(E_1, 3)} The START line gets wider then, and so does the table:")
+    low, high = sums_to(least, "poisson.txt", START_WIDE)
+    yield where(low < LEVEL_99 < high,
+                f"Take the level {LEVEL_99 / UNIT}. Up to total {least} the lows now add up to {low} and the highs to {high}: the one is "
+                f"below the level, the other above it. So the quantile is {least} or {most}, and this table cannot tell which.")
+    yield (f"**The mutual reserves by sure**, {most}: that is enough in both cases. **Pricing asks for possible**, {least}, the smallest "
+           f"that the quantile could be: a price that counts on less is too low in both cases. But possible is a lower end and no promise.")
+    yield f"The mutual can pay up to {least}."
+    yield where(sure_and_possible(LEVEL_99, "poisson.txt")[0] == least,
+                f"By the first START line it is: {least} is sure. By that of three digits nobody can say: {least} is possible, but only "
+                f"{most} is sure.")
+
+
+def wide_start_short():
+    """Sure alone is refused."""
+    (none, least), read = sure_and_possible(LEVEL_999, "poisson.txt", START_WIDE), job("poisson.txt", START_WIDE)
+    exact_total = quantile(WINDOWS, LEVEL_999)
+    lows = [total[0][0] for total in entries(read, LAST_TOTAL)]
+    yield where(none == "refused by 34" and least <= exact_total,
+                f"At the level {LEVEL_999 / UNIT} no total is sure. The lows of the whole table add up to {sum(lows[:read.last + 1])}, "
+                f"which is below the level. This is refusal 34. It does not say that the level is not reached: the exact chances reach it "
+                f"at total {exact_total}. It says that these lows do not show it, at any total of the table.")
+    yield where(not any(lows[read.last + 1:]) and sure_and_possible(LEVEL_999, "poisson.txt")[0] == exact_total,
+                "More totals would not help, as all later lows are 0; a better start does. Possible has its answer all the same.")
+
+
+def mowers_level():
+    none, least = sure_and_possible(LEVEL_99, "growing.txt", "LAST 18")
+    yield where(none == "refused by 34" and max(row[1] for row in rows("growing.txt", "LAST 18")) == 0,
+                "No low is above 0, so no total is sure: refusal 34.")
+    exact_total, share = quantile(MOWERS, LEVEL_99), sum(MOWERS[:least + 1]) / UNIT
+    yield where(least <= exact_total and share < QUARTER,
+                f"Possible is true: the exact chances reach the level at total {exact_total}, which is not below {least}. But up to total "
+                f"{least} they add up to {cut(share, 9)}, so with a reserve of {least} the mutual is safe in not even one year of four. "
+                f"Never reserve by possible.")
+    (most, missing), whole = sure_and_possible(LEVEL_1, "turned.txt"), greatest(MOWERS)
+    low, high = sums_to(missing, "turned.txt")[0], sums_to(missing - 1, "turned.txt")[1]
+    yield f"and that may happen in {100 * LEVEL_1 // UNIT} year of 100. So ask for the level {LEVEL_1 / UNIT}:"
+    yield where(most == missing == whole - exact_total and high < LEVEL_1 < low,
+                f"Up to total {missing - 1} even the highs add up to no more than {high}. So with a chance above {LEVEL_99 / UNIT} at "
+                f"least {missing} is missing, and the year costs at most {whole} - {missing} = {exact_total}. To be able to pay "
+                f"{exact_total - 1} is not enough: up to total {missing} the lows add up to {low}, so the year costs {exact_total} or more "
+                f"with a chance of at least {nine_digits(low)}.")
 
 
 def poisson_start():
@@ -330,14 +440,15 @@ def turned_table():
     yield f"at total 0, from {none} to {one} units. Write down {both_round_to((none, one), 8)}."
 
 
-PARTS = [poisson_table, poisson_start, binomial_law, binomial_table, bound_rule, tosses_law, tosses_table, rest_table, binomial_nearest,
-         group_law, pairs_start, pairs_alone, group_table, growing_table, growing_nearest, turned_table]
+PARTS = [poisson_table, poisson_levels, short_table, wide_start, wide_start_short, poisson_start, binomial_law, binomial_table, bound_rule,
+         tosses_law, tosses_table, rest_table, binomial_nearest, group_law, pairs_start, pairs_alone, group_table, growing_table,
+         mowers_level, growing_nearest, turned_table]
 
 # An equation in the text, and what a number is that must be worked out somewhere: a fraction, a decimal, or three digits and more.
 EQUATION = re.compile(r"(?<![\w/.])([(\d][\d.()/^× ]*[\d)]) = (\d[\d./]*\d)(\.\.\.)?")
 NUMBER = re.compile(r"-?\d+/\d+|-?\d+\.\d+|\d{3,}")
-# What is no result: the numbers of questions, LAST lines, and what question 1.3 asks for.
-NO_RESULT = re.compile(r"\*\*\d\.\d\*\*|\(question \d\.\d\)|`LAST \d+`|99 years of 100")
+# What is no result: the numbers of questions, LAST lines, and what is asked for in part 1.
+NO_RESULT = re.compile(r"\*\*\d\.\d\*\*|\(question \d\.\d\)|`LAST \d+`|\b99 years of 100\b|\b999 years of 1000\b")
 
 
 def comes_out(left, right, dots):
