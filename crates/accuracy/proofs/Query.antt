@@ -25,7 +25,7 @@ use Rattle.compound.specs.Call.{curveLent}
 use Rattle.compound.proofs.Accepted.{limits, entry-small, lows-long, highs-long}
 use Rattle.intervals.specs.Checks.{wrongLengths, wrongAt, firstWrong}
 use Rattle.intervals.specs.Amounts.{Enclose}
-use Rattle.quantile.specs.Call.{wrongLevel, reachCondition, queryBy, sureQuery, possibleQuery}
+use Rattle.quantile.specs.Call.{wrongLevel, reachCheck, queryBy, sureQuery, possibleQuery}
 use Rattle.quantile.proofs.Enclosed.{quantile-enclosed}
 use Rattle.accuracy.specs.Accuracy.{Accepted, shown}
 use Rattle.accuracy.specs.Query.{lows, highs, RowsNotRefused, RowsEnclose, EnclosesQuantile}
@@ -81,7 +81,7 @@ module _ (job : Job) (weights : List ℕ) (lent : Lent) (ok : Accepted job weigh
 
   -- ---- so the level's two conditions are left
   level-alone : (row : List ℤ) (number : ℕ) (level : ℤ) → queryBy row number low high level .answer
-      ≡ firstOf (condition (wrongLevel level) 32 0 ∷ reachCondition row number level ∷ [])
+      ≡ firstOf (condition (wrongLevel level) 32 0 ∷ reachCheck row number level)
   unfolding firstOf
   level-alone row number level = rw (right-lengths, le-ltb _ _ (NL.le-of-eq (sym right-entries)))
 

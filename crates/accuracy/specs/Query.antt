@@ -11,7 +11,7 @@ use Rattle.exact.specs.JobAmount.{Divisible, amount}
 use Rattle.rows.specs.Layout.{Lent}
 use Rattle.compound.specs.Call.{curveLent}
 use Rattle.intervals.specs.Amounts.{Enclose}
-use Rattle.quantile.specs.Call.{wrongLevel, reachCondition, sureQuery, possibleQuery}
+use Rattle.quantile.specs.Call.{wrongLevel, reachCheck, sureQuery, possibleQuery}
 use Rattle.quantile.specs.Enclosed.{QueriesTrue}
 use Rattle.accuracy.specs.Accuracy.{Accepted}
 
@@ -27,8 +27,8 @@ abbrev pub RowsNotRefused : Type 0
 RowsNotRefused = (job : Job) (weights : List ℕ) (lent : Lent) → Accepted job weights lent → (level : ℤ)
     → let low = lows job weights lent in
     let high = highs job weights lent in
-    (sureQuery low high level .answer ≡ firstOf (condition (wrongLevel level) 32 0 ∷ reachCondition low 34 level ∷ []))
-    × (possibleQuery low high level .answer ≡ firstOf (condition (wrongLevel level) 32 0 ∷ reachCondition high 35 level ∷ []))
+    (sureQuery low high level .answer ≡ firstOf (condition (wrongLevel level) 32 0 ∷ reachCheck low 34 level))
+    × (possibleQuery low high level .answer ≡ firstOf (condition (wrongLevel level) 32 0 ∷ reachCheck high 35 level))
 
 -- what is said of them and of the exact amounts, for every starting chance from s to t, whole or fraction, ends included
 abbrev pub OfEveryStart : (List ℤ → List ℤ → (ℕ → Fraction) → Type 0) → Type 0

@@ -1,13 +1,14 @@
--- Amounts that are larger at each total reach a level where smaller ones do (`reached-more`). The lows, the amounts that the rows enclose and
--- the highs are in this order, so their quantiles are in the opposite one.
-use mathlib.Core.Path.{_≡_, sym, ap, _∙_}
+-- Amounts that are larger at each total reach a level where smaller ones do (`reached-more`). The lows, the amounts that the rows enclose
+-- and the highs are in this order, so their quantiles are in the opposite one.
+use mathlib.Core.Path.{_≡_, refl, sym, ap, _∙_}
 use mathlib.Core.Bool.{Bool, true, false, true≢false, cond}
-use mathlib.Core.List.{List, [], _∷_}
+use mathlib.Core.List.{List, []}
 use Prim.Native.Nat.{ℕ, _≤_, _<_}
 use native.Mathlib.Nat as NL
 use native.Mathlib.Decide.{decLe}
 use native.Mathlib.Omega.{arith}
 use borrow.Author.Tests.{eqb-true, eqb-false, ne-eqb}
+use lib.Dec.{eqb}
 use lib.IntN.{ℤ, pos}
 use lib.Signed.{leZ}
 use lib.ListN.{length, getD}
@@ -18,7 +19,7 @@ use Rattle.model.specs.Answer.{Answer, accepted, refused, isAccepted, firstOf}
 use Rattle.model.proofs.Answer.{first-none, first-fails, by-first, first-append, none-holds, first-passed}
 use Rattle.intervals.specs.Amounts.{entries, Enclose}
 use Rattle.intervals.proofs.Passed.{Passed, passed}
-use Rattle.quantile.specs.Call.{runningSum, quantileOf, checks, unreached, reachCondition, sureQuery, possibleQuery}
+use Rattle.quantile.specs.Call.{runningSum, quantileOf, checks, unreached, reachCheck, queryBy, sureQuery, possibleQuery}
 use Rattle.quantile.specs.Enclosed.{Reached, UnreachedBefore, Quantile, QuantileFrom, Accepted, QueriesTrue}
 use Rattle.quantile.specs.Enclosed.{OneQuantile, SureOfLows, PossibleOfHighs, PossibleWithSure, QuantileEnclosed}
 
@@ -77,6 +78,25 @@ module _ (row : List ℤ) (level : ℤ) where
   row-quantile l = record { reached = row-reached l; first = row-unreached }
 
 -- ---- what the answers say of the rows
+-- a call by a row that is accepted
+record AcceptedBy (row low high : List ℤ) (level : ℤ) (total : ℕ) : Type 0 where
+  rows : Passed low high
+  below : quantileOf row level < length row
+  is : total ≡ quantileOf row level
+
+module _ (row : List ℤ) (number : ℕ) (low high : List ℤ) (level : ℤ) where
+  row-checked : eqb number 0 ≡ false → firstOf (reachCheck row number level) ≡ accepted → unreached row level ≡ false
+  row-checked numbered = by-first (λ a. a ≡ accepted → unreached row level ≡ false) _ number 0 []
+      (λ holds e. absurd (true≢false (sym (ap isAccepted e) ∙ numbered))) (λ fails e. fails)
+
+  accepted-by : eqb number 0 ≡ false → Accepted (queryBy row number low high level)
+      → AcceptedBy row low high level (queryBy row number low high level .total)
+  accepted-by numbered ok = let fails = none-holds (checks low high level) (reachCheck row number level) tt ok in record {
+    rows = passed low high (fails .0 31) (fails .0 33);
+    below = row-below row level (row-checked numbered (fails .1));
+    is = ap (λ (a : Answer). cond (isAccepted a) (quantileOf row level) 0) ok;
+  }
+
 module _ (low high : List ℤ) (level : ℤ) where
   abbrev byLows : ℕ
   byLows = quantileOf low level
@@ -84,35 +104,23 @@ module _ (low high : List ℤ) (level : ℤ) where
   abbrev byHighs : ℕ
   byHighs = quantileOf high level
 
-  sure-passed : Accepted (sureQuery low high level) → Passed low high × (byLows < length low)
+  sure-by : Accepted (sureQuery low high level) → AcceptedBy low low high level (sureQuery low high level .total)
   unfolding sureQuery
-  sure-passed ok =
-      let fails = none-holds (checks low high level) (reachCondition low 34 level ∷ []) tt ok in
-      (passed low high (fails .0 31) (fails .0 33), row-below low level (none-holds (reachCondition low 34 level ∷ []) [] tt (fails .1) .0 34))
+  sure-by = accepted-by low 34 low high level refl
 
-  sure-total : Accepted (sureQuery low high level) → sureQuery low high level .total ≡ byLows
-  unfolding sureQuery
-  sure-total ok = ap (λ (a : Answer). cond (isAccepted a) byLows 0) ok
-
-  possible-passed : Accepted (possibleQuery low high level) → Passed low high × (byHighs < length high)
+  possible-by : Accepted (possibleQuery low high level) → AcceptedBy high low high level (possibleQuery low high level .total)
   unfolding possibleQuery
-  possible-passed ok =
-      let fails = none-holds (checks low high level) (reachCondition high 35 level ∷ []) tt ok in
-      (passed low high (fails .0 31) (fails .0 33), row-below high level (none-holds (reachCondition high 35 level ∷ []) [] tt (fails .1) .0 35))
-
-  possible-total : Accepted (possibleQuery low high level) → possibleQuery low high level .total ≡ byHighs
-  unfolding possibleQuery
-  possible-total ok = ap (λ (a : Answer). cond (isAccepted a) byHighs 0) ok
+  possible-by = accepted-by high 35 low high level refl
 
   -- 35 is about the highs alone
-  highs-short : firstOf (reachCondition high 35 level ∷ []) ≡ refused 35 0 → unreached high level ≡ true
+  highs-short : firstOf (reachCheck high 35 level) ≡ refused 35 0 → unreached high level ≡ true
   highs-short = by-first (λ a. a ≡ refused 35 0 → unreached high level ≡ true) _ 35 0 [] (λ holds e. holds)
       (λ fails e. absurd (true≢false (ap isAccepted (sym first-none ∙ e))))
 
-  short-passed : possibleQuery low high level .answer ≡ refused 35 0 → Passed low high × (byHighs ≡ length high)
+  short-by : possibleQuery low high level .answer ≡ refused 35 0 → Passed low high × (byHighs ≡ length high)
   unfolding possibleQuery
-  short-passed e =
-      let fails = none-holds (checks low high level) (reachCondition high 35 level ∷ []) tt e in
+  short-by e =
+      let fails = none-holds (checks low high level) (reachCheck high 35 level) tt e in
       (passed low high (fails .0 31) (fails .0 33), eqb-true _ _ (highs-short (fails .1)))
 
   -- ---- lows before highs
@@ -125,13 +133,12 @@ module _ (low high : List ℤ) (level : ℤ) where
   possible-too : Accepted (sureQuery low high level) → Accepted (possibleQuery low high level)
   unfolding sureQuery possibleQuery
   possible-too ok =
-      let rows = sure-passed ok in
-      let below : byHighs < length high = omega (arith, in-order (rows .0) (rows .1), rows .1, rows .0 .same) in
-      let reached : unreached high level ≡ false = ne-eqb byHighs (length high) (λ same. omega (arith, same, below)) in
-      first-append (checks low high level) (reachCondition high 35 level ∷ []) tt
-      ∙ ap (λ (t : Bool). cond t (firstOf (reachCondition high 35 level ∷ [])) (firstOf (checks low high level)))
-      (first-passed (checks low high level) (reachCondition low 34 level ∷ []) tt ok)
-      ∙ first-fails _ [] reached
+      let by = sure-by ok in
+      let below : byHighs < length high = omega (arith, in-order (by .rows) (by .below), by .below, by .rows .same) in
+      first-append (checks low high level) (reachCheck high 35 level) tt
+      ∙ ap (λ (t : Bool). cond t (firstOf (reachCheck high 35 level)) (firstOf (checks low high level)))
+      (first-passed (checks low high level) (reachCheck low 34 level) tt ok)
+      ∙ first-fails _ [] (ne-eqb byHighs (length high) (λ same. omega (arith, same, below)))
       ∙ first-none
 
   -- ---- the amounts between them
@@ -147,29 +154,27 @@ module _ (low high : List ℤ) (level : ℤ) where
 
     queries-true : QueriesTrue low high level amount
     queries-true = record {
-      sure-reached = λ ok. rw (sure-total ok) (reached-by-lows (sure-passed ok .1));
-      between = λ ok. let rows = sure-passed ok in
-          rw (sure-total ok, possible-total (possible-too ok))
-          (quantile-from amount level byHighs byLows (unreached-by-highs (rows .0)) (reached-by-lows (rows .1)));
-      before-possible = λ ok. rw (possible-total ok) (unreached-by-highs (possible-passed ok .0));
-      at-least-possible = λ ok x quantile.
-          rw (possible-total ok) (not-before amount level x byHighs (quantile .reached) (unreached-by-highs (possible-passed ok .0)));
-      unreached = λ short. let rows = short-passed short in rw (rows .0 .same, sym (rows .1)) (unreached-by-highs (rows .0));
+      sure-reached = λ ok. let by = sure-by ok in rw (by .is) (reached-by-lows (by .below));
+      between = λ ok. let by = sure-by ok in
+          rw (by .is, possible-by (possible-too ok) .is)
+          (quantile-from amount level byHighs byLows (unreached-by-highs (by .rows)) (reached-by-lows (by .below)));
+      before-possible = λ ok. let by = possible-by ok in rw (by .is) (unreached-by-highs (by .rows));
+      at-least-possible = λ ok x quantile. let by = possible-by ok in
+          rw (by .is) (not-before amount level x byHighs (quantile .reached) (unreached-by-highs (by .rows)));
+      unreached = λ short. let by = short-by short in rw (by .0 .same, sym (by .1)) (unreached-by-highs (by .0));
     }
 
 pub sure-of-lows : SureOfLows
-sure-of-lows low high level ok =
-    let below = sure-passed low high level ok .1 in rw (sure-total low high level ok) (row-quantile low level below, below)
+sure-of-lows low high level ok = let by = sure-by low high level ok in rw (by .is) (row-quantile low level (by .below), by .below)
 
 pub possible-of-highs : PossibleOfHighs
-possible-of-highs low high level ok =
-    let below = possible-passed low high level ok .1 in rw (possible-total low high level ok) (row-quantile high level below, below)
+possible-of-highs low high level ok = let by = possible-by low high level ok in rw (by .is) (row-quantile high level (by .below), by .below)
 
 pub possible-with-sure : PossibleWithSure
 possible-with-sure low high level ok =
-    let rows = sure-passed low high level ok in
+    let by = sure-by low high level ok in
     let too = possible-too low high level ok in
-    (too, rw (sure-total low high level ok, possible-total low high level too) (in-order low high level (rows .0) (rows .1)))
+    (too, rw (by .is, possible-by low high level too .is) (in-order low high level (by .rows) (by .below)))
 
 pub quantile-enclosed : QuantileEnclosed
 quantile-enclosed = queries-true

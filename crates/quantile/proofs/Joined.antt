@@ -2,7 +2,7 @@
 -- row's condition decides.
 use mathlib.Core.Path.{_≡_, refl, sym, ap, _∙_}
 use mathlib.Core.Bool.{false, cond}
-use mathlib.Core.List.{List, [], _∷_}
+use mathlib.Core.List.{List, []}
 use Prim.Native.Nat.{ℕ}
 use lib.IntN.{ℤ}
 use Rattle.model.specs.Answer.{Answer, refused, isAccepted, firstOf}
@@ -13,7 +13,7 @@ use Rattle.quantile.specs.declared.Reason.the-variants.{Rows, Level, Ent
 use Rattle.quantile.specs.declared.QuantileAnswer.the-variants.{Refused as RefusedBy}
 use Rattle.quantile.specs.declared.check.Check.{Check}
 use Rattle.quantile.specs.declared.check.Check.the-variants.{Passed, Refused}
-use Rattle.quantile.specs.Call.{numberOf, paper, quantileOf, checks, reachCondition, answered, queryBy}
+use Rattle.quantile.specs.Call.{numberOf, paper, quantileOf, checks, reachCheck, answered, queryBy}
 use Rattle.quantile.specs.Checked.{checkAnswer}
 
 -- no reason has the number of an acceptance
@@ -34,14 +34,15 @@ told-passed {low} {high} {level} told =
     passed low high (fails 31) (fails 33)
 
 module _ (row : List ℤ) (number : ℕ) {low high : List ℤ} {level : ℤ} where
-  joined : {check : Check} → Told low high level check
-      → answered (cond (isAccepted (checkAnswer check)) (firstOf (reachCondition row number level ∷ [])) (checkAnswer check)) (quantileOf row level)
+  joined : {check : Check} → Told low high level check → let answer = checkAnswer check in
+      answered (cond (isAccepted answer) (firstOf (reachCheck row number level)) answer) (quantileOf row level)
       ≡ queryBy row number low high level
   joined told =
-      ap (λ (a : Answer). answered (cond (isAccepted a) (firstOf (reachCondition row number level ∷ [])) a) (quantileOf row level)) (told .is)
-      ∙ ap (λ (a : Answer). answered a (quantileOf row level)) (sym (first-append (checks low high level) (reachCondition row number level ∷ []) tt))
+      ap (λ (a : Answer). answered (cond (isAccepted a) (firstOf (reachCheck row number level)) a) (quantileOf row level)) (told .is)
+      ∙ ap (λ (a : Answer). answered a (quantileOf row level)) (sym (first-append (checks low high level) (reachCheck row number level) tt))
 
-  pub by-row : Told low high level Passed → answered (firstOf (reachCondition row number level ∷ [])) (quantileOf row level) ≡ queryBy row number low high level
+  pub by-row : Told low high level Passed
+      → answered (firstOf (reachCheck row number level)) (quantileOf row level) ≡ queryBy row number low high level
   by-row = joined
 
   pub by-checks : {reason : Reason} {place : ℕ} → Told low high level (Refused reason place)

@@ -58,18 +58,18 @@ checks low high level = rowsCondition low high ∷ condition (wrongLevel level) 
 abbrev pub unreached : List ℤ → ℤ → Bool
 unreached row level = eqb (quantileOf row level) (length row)
 
-abbrev pub reachCondition : (row : List ℤ) (number : ℕ) (level : ℤ) → Condition
-reachCondition row number level = condition (unreached row level) number 0
+abbrev pub reachCheck : (row : List ℤ) (number : ℕ) (level : ℤ) → List Condition
+reachCheck row number level = condition (unreached row level) number 0 ∷ []
 
 -- ---- the calls
 -- the total of an acceptance; after a refusal it is 0
 abbrev pub answered : Answer → ℕ → Found
 answered answer total = record { answer = answer; total = cond (isAccepted answer) total 0 }
 
--- a call by one of the two rows; `number` refuses where no sum of this row reaches L
+-- a call by one of the two rows, with the number of its own refusal
 abbrev pub queryBy : (row : List ℤ) (number : ℕ) (low high : List ℤ) (level : ℤ) → Found
 queryBy row number low high level =
-    answered (firstOf (checks low high level ++ reachCondition row number level ∷ [])) (quantileOf row level)
+    answered (firstOf (checks low high level ++ reachCheck row number level)) (quantileOf row level)
 
 -- sure, "the smallest whose sum of lows reaches L"; "34 belongs to sure"
 unfoldable pub sureQuery : List ℤ → List ℤ → ℤ → Found

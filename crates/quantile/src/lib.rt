@@ -7,10 +7,9 @@ use check::Check;
 use check::checked;
 use search::quantile_of;
 ghost use mathlib.Core.Path.{_≡_};
-ghost use mathlib.Core.List.{[], _∷_};
 ghost use Rattle.model.specs.Answer.{firstOf};
 ghost use Rattle.intervals.specs.Checks.{Summable};
-ghost use Rattle.quantile.specs.Call.{numberOf, paper, quantileOf, reachCondition, answered, sureQuery, possibleQuery};
+ghost use Rattle.quantile.specs.Call.{numberOf, paper, quantileOf, reachCheck, answered, sureQuery, possibleQuery};
 
 // Why a query refuses.
 pub enum Reason {
@@ -48,7 +47,7 @@ pub fn reason_number(reason: Reason) -> u64
 // The total of a row, and the reason given where no sum of the row reaches the level.
 fn total_of(row: &[i64], level: i64, short: Reason) -> QuantileAnswer
     requires { ⌜ Summable (now row) ⌝ }
-    ensures { λ r. ⌜ paper r ≡ answered (firstOf (reachCondition (now (row .entry)) (numberOf short) level ∷ []))
+    ensures { λ r. ⌜ paper r ≡ answered (firstOf (reachCheck (now (row .entry)) (numberOf short) level))
         (quantileOf (now (row .entry)) level) ⌝ }
 {
     let total = quantile_of(row, level);
