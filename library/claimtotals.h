@@ -23,8 +23,8 @@ extern "C" {
 #endif
 
 /* The version of this header, as a number, major * 10,000 + minor * 100 + patch, and as text. */
-#define CLAIMTOTALS_VERSION 400
-#define CLAIMTOTALS_VERSION_TEXT "0.4.0"
+#define CLAIMTOTALS_VERSION 500
+#define CLAIMTOTALS_VERSION_TEXT "0.5.0"
 
 #define CLAIMTOTALS_UNIT INT64_C(1000000000)
 
@@ -170,13 +170,12 @@ uint64_t claimtotals_read_sheet(const uint8_t *sheet, size_t sheet_length, uint6
    After any other answer of claimtotals_read_sheet both are 0. It refuses nothing. */
 void claimtotals_faulty_word(const uint8_t *sheet, size_t sheet_length, size_t places, size_t *start, size_t *count);
 
-/* The level query: the total up to which the chances of a curve reach a level.
+/* The level query, for the sure total: the smallest at which the lows, added up from total 0 on, come to a level or more.
 
    low, high     the first X+1 places of a curve's rows; only read
    level         L, in units
    place         the place of a refusal; 0 after an acceptance
-   sure          the smallest total at which the lows, added up from total 0 on, come to L or more
-   possible      the smallest total at which the highs do
+   total         the sure total; 0 after a refusal
 
    0    accepted
    31   the rows are empty, not equally long, or longer than 501
@@ -184,9 +183,28 @@ void claimtotals_faulty_word(const uint8_t *sheet, size_t sheet_length, size_t p
    33   a low or a high lies outside -2U to 2U, or the low is above the high; the place is the first such
    34   the lows never add up to the level L
 
-   After a refusal both totals are 0. */
-uint64_t claimtotals_quantile(const int64_t *low, size_t low_length, const int64_t *high, size_t high_length, int64_t level, size_t *place,
-                              size_t *sure, size_t *possible);
+   What the total says: any amounts, one for each total, that lie from low to high, and so the exact chances of an accepted job, come to L
+   or more, added up from total 0 to this one. So they have a quantile, the smallest total with that, and it is this one at most. */
+uint64_t claimtotals_sure(const int64_t *low, size_t low_length, const int64_t *high, size_t high_length, int64_t level, size_t *place,
+                          size_t *total);
+
+/* The level query, for the possible total: the smallest at which the highs, added up from total 0 on, come to a level or more.
+
+   low, high, level, place
+                 as with claimtotals_sure
+   total         the possible total; 0 after a refusal
+
+   0    accepted
+   31   the rows are empty, not equally long, or longer than 501
+   32   the level L is not 1 to U, where U is 1,000,000,000 units and stands for chance 1
+   33   a low or a high lies outside -2U to 2U, or the low is above the high; the place is the first such
+   35   the highs never add up to the level L
+
+   What the total says of such amounts: added up from total 0 to any smaller one they come to less than L. So a quantile of them is this
+   one at least. After 35 they come to less than L at every total of the rows. Where claimtotals_sure accepts, this call does too, and its
+   total is at most the sure one; but it needs no sure total, and may accept where that call refuses by 34. */
+uint64_t claimtotals_possible(const int64_t *low, size_t low_length, const int64_t *high, size_t high_length, int64_t level, size_t *place,
+                              size_t *total);
 
 /* The version of the library that runs, a number like CLAIMTOTALS_VERSION, which is that of the header a program was compiled with. Where
    the library is shared the two may differ. Before 1.0 a minor version may change calls: where claimtotals_version() / 100 is not

@@ -86,13 +86,16 @@ static void call_faulty_word(void) {
     give_rows(rows, sizeof rows / sizeof *rows);
 }
 
-static void call_quantile(void) {
+/* Each of the two totals has a call of this kind. */
+typedef uint64_t level_query(const int64_t *, size_t, const int64_t *, size_t, int64_t, size_t *, size_t *);
+
+static void call_level(level_query *query) {
     struct row low = take_row(8), high = take_row(8);
     int64_t level = (int64_t)number();
-    struct row place = take_row(8), sure = take_row(8), possible = take_row(8);
-    uint64_t answer = claimtotals_quantile(low.block, low.places, high.block, high.places, level, place.block, sure.block, possible.block);
+    struct row place = take_row(8), total = take_row(8);
+    uint64_t answer = query(low.block, low.places, high.block, high.places, level, place.block, total.block);
     give(&answer, sizeof answer);
-    struct row rows[] = {low, high, place, sure, possible};
+    struct row rows[] = {low, high, place, total};
     give_rows(rows, sizeof rows / sizeof *rows);
 }
 
@@ -138,7 +141,8 @@ int main(void) {
         case 'c': call_curve(); break;
         case 'r': call_read_sheet(); break;
         case 'f': call_faulty_word(); break;
-        case 'q': call_quantile(); break;
+        case 's': call_level(claimtotals_sure); break;
+        case 'o': call_level(claimtotals_possible); break;
         case 'm': call_start_mean(); break;
         case 't': call_start_trials(); break;
         case 'p': call_law_panjer_willmot(); break;

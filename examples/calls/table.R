@@ -3,8 +3,9 @@
 #     Rscript examples/calls/table.R examples/poisson.txt
 #
 # The command is looked for two folders above this file, and builds the program first where that is due; another can be given as the second
-# argument. The table, the mean and the totals for the level below go to standard output. What `curve` says goes to standard error: the
-# sentence of a refusal, with exit status 1, or what failed, with 2.
+# argument. The table, the mean and the totals for the level below go to standard output, with `none` for a total that there is not. What
+# `curve` says goes to standard error: the sentence of a refusal, with exit status 1, or what failed, with 2. Why there is no total is told
+# there too, with status 1.
 
 unit <- 1e9
 # Which total do 99 percent of the years not exceed?
@@ -42,6 +43,10 @@ cat(sprintf("mean, totals up to %.0f: from %.9f to %.9f\n", max(totals$TOTAL), m
 
 # The smallest total at which the entries, added up from total 0 on, come to the level or more; NA where they never do.
 reached <- function(row) totals$TOTAL[which(cumsum(row) >= level)[1]]
+shown <- function(total) if (is.na(total)) "none" else sprintf("%.0f", total)
 sure <- reached(totals$LOW)
-if (is.na(sure)) stop_with(1, sprintf("level %.9g: the lows never add up to it", level / unit))
-cat(sprintf("level %.9g: sure %.0f, possible %.0f\n", level / unit, sure, reached(totals$HIGH)))
+possible <- reached(totals$HIGH)
+cat(sprintf("level %.9g: sure %s, possible %s\n", level / unit, shown(sure), shown(possible)))
+if (is.na(sure)) message(sprintf("level %.9g, sure: the lows never add up to it", level / unit))
+if (is.na(possible)) message(sprintf("level %.9g, possible: the highs never add up to it", level / unit))
+if (is.na(sure) || is.na(possible)) quit(status = 1)

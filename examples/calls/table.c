@@ -1,12 +1,12 @@
-/* The table of a sheet and a level query, by the calls of the library. C99. From the folder that has README.md:
+/* The table of a sheet and its totals for a level, by the calls of the library. C99. From the folder that has README.md:
 
        library/build
        cc -std=c99 -Wall -Wextra -I target/library -o target/table examples/calls/table.c target/library/libclaimtotals.a
        target/table examples/poisson.txt
 
    README.md says how to compile it with the archive of a release. The table goes to standard output, and after it the totals for the level
-   below. A refusal goes to standard error, and the exit status is then 1; it is 2 where the file cannot be read or the table cannot be
-   written. */
+   below, or `none` for one that is refused. A refusal goes to standard error, and the exit status is then 1; it is 2 where the file cannot
+   be read or the table cannot be written. */
 
 #include <inttypes.h>
 #include <stdio.h>
@@ -19,6 +19,7 @@ enum { MOST_BYTES = 16384 + 1 };
 
 /* Which total do 99 percent of the years not exceed? */
 #define LEVEL (CLAIMTOTALS_UNIT / 100 * 99)
+#define LEVEL_CHANCE ((double)LEVEL / CLAIMTOTALS_UNIT)
 
 /* The job, as the sheet reader hands it over and the curve call takes it. */
 struct job {
@@ -91,17 +92,28 @@ static void print_table(const struct rows *rows, size_t totals) {
     }
 }
 
-/* The query is about the totals of the table alone: later places of the rows are none of the curve. */
-static int print_level(const struct rows *rows, size_t totals) {
-    double chance = (double)LEVEL / CLAIMTOTALS_UNIT;
-    size_t place, sure, possible;
-    uint64_t number = claimtotals_quantile(rows->low, totals, rows->high, totals, LEVEL, &place, &sure, &possible);
-    if (number != 0) {
-        fprintf(stderr, "level %.9g: refused by %" PRIu64 " at place %zu\n", chance, number, place);
-        return 1;
+/* What a call answered for the level: the total, or none where it refused. */
+static void print_total(const char *name, uint64_t number, size_t total) {
+    if (number == 0) {
+        printf("%s %zu", name, total);
+        return;
     }
-    printf("level %.9g: sure %zu, possible %zu\n", chance, sure, possible);
-    return 0;
+    printf("%s none", name);
+    fprintf(stderr, "level %.9g, %s: refused by %" PRIu64 "\n", LEVEL_CHANCE, name, number);
+}
+
+/* Each total has its own call, so that there may be a possible one without a sure one. The calls are about the totals of the table alone:
+   later places of the rows are none of the curve. */
+static int print_level(const struct rows *rows, size_t totals) {
+    size_t place, sure, possible;
+    uint64_t no_sure = claimtotals_sure(rows->low, totals, rows->high, totals, LEVEL, &place, &sure);
+    uint64_t no_possible = claimtotals_possible(rows->low, totals, rows->high, totals, LEVEL, &place, &possible);
+    printf("level %.9g: ", LEVEL_CHANCE);
+    print_total("sure", no_sure, sure);
+    printf(", ");
+    print_total("possible", no_possible, possible);
+    printf("\n");
+    return no_sure != 0 || no_possible != 0;
 }
 
 int main(int argc, char **argv) {

@@ -7,7 +7,7 @@
     chances = sheet.curve()
     for row in chances:
         print(row.total, row.digits())
-    print(chances.quantile(500_000_000).sure)
+    print(chances.sure(500_000_000), chances.possible(500_000_000))
 
 A sheet is plain text. This one has a Poisson law with mean 1 and claims of size 1 or 2, each as likely:
 
@@ -25,7 +25,7 @@ A sheet is plain text. This one has a Poisson law with mean 1 and claims of size
 Chances are in units of one billionth. Every number comes from a call of the proved library; a call that refuses raises `Refused`, and what
 does not fit a call is a ValueError before it.
 """
-from claimtotals.curves import Curve, Job, Quantile, Row, curve, quantile
+from claimtotals.curves import Curve, Job, Row, curve, possible, sure
 from claimtotals.laws import Law, law_hesselager, law_panjer_willmot
 from claimtotals.layout import digits
 from claimtotals.library import MOST_BYTES, UNIT
@@ -33,8 +33,8 @@ from claimtotals.refusals import Refused
 from claimtotals.sheets import Sheet, read_sheet
 from claimtotals.starts import Start, start_of_mean, start_of_trials
 
-__all__ = ["MOST_BYTES", "UNIT", "Curve", "Job", "Law", "Quantile", "Refused", "Row", "Sheet", "Start", "curve", "digits", "law_hesselager",
-           "law_panjer_willmot", "quantile", "read_sheet", "start_of_mean", "start_of_trials"]
+__all__ = ["MOST_BYTES", "UNIT", "Curve", "Job", "Law", "Refused", "Row", "Sheet", "Start", "curve", "digits", "law_hesselager",
+           "law_panjer_willmot", "possible", "read_sheet", "start_of_mean", "start_of_trials", "sure"]
 
 
 def __getattr__(name: str) -> str:

@@ -3,7 +3,7 @@ from __future__ import annotations
 
 import argparse
 import re
-from typing import Callable, NamedTuple, Optional, Sequence
+from typing import Callable, NamedTuple, Optional, Sequence, Union
 
 from claimtotals import layout, library, streams
 from claimtotals.advice import about_excess, about_sums
@@ -141,6 +141,11 @@ def table(given: argparse.Namespace) -> int:
 
 # ---- level
 
+# The queries of a level, by the names that their totals are shown with; and what each answers.
+QUERIES = {"sure": Curve.sure, "possible": Curve.possible}
+TotalOrRefusal = Union[int, Refused]
+
+
 def level_units(text: str) -> int:
     """A level in units: a chance has a point or a comma, a number without is in units. A short one could be a chance or percent."""
     if re.fullmatch("[0-9]{1,3}", text):
@@ -153,21 +158,40 @@ def level_units(text: str) -> int:
     return int(found[1]) * library.UNIT + int(found[2].ljust(9, "0"))
 
 
+def total_or_refusal(curve: Curve, query: str, units: int) -> TotalOrRefusal:
+    try:
+        return QUERIES[query](curve, units)
+    except Refused as refusal:
+        return refusal
+
+
+def totals_shown(answers: dict[str, TotalOrRefusal]) -> str:
+    return ", ".join(f"{query} {'none' if isinstance(answer, Refused) else answer}" for query, answer in answers.items())
+
+
+def refusals_told(about: str, answers: dict[str, TotalOrRefusal]) -> list[str]:
+    """A sentence for each query that is refused, with its name. Where both are refused alike, the level itself is at fault, which is said
+    once."""
+    refusals = [(query, answer) for query, answer in answers.items() if isinstance(answer, Refused)]
+    numbers = [refusal.number for _, refusal in refusals]
+    if len(set(numbers)) < len(numbers):
+        return [refusals[0][1].of(about)]
+    return [refusal.of(f"{about}, {query}") for query, refusal in refusals]
+
+
 def level(given: argparse.Namespace) -> int:
     """Every level is asked, also after one that is refused."""
-    curve, lines, refusals = known_curve(given.sheet), [], []
+    curve, lines, sentences = known_curve(given.sheet), [], []
     for units in given.levels:
         name = f"level {layout.short_chance(units)}"
-        try:
-            found = curve.quantile(units)
-            lines.append(f"{name}: sure {found.sure}, possible {found.possible}\n")
-        except Refused as refusal:
-            refusals.append(refusal.of(f"{streams.source(given.sheet)}, {name}"))
+        answers = {query: total_or_refusal(curve, query, units) for query in given.queries}
+        lines.append(f"{name}: {totals_shown(answers)}\n")
+        sentences += refusals_told(f"{streams.source(given.sheet)}, {name}", answers)
     streams.write_output("".join(lines).encode())
-    for sentence in refusals:
+    for sentence in sentences:
         streams.say(COMMAND, sentence)
     remark(given.sheet, about_excess(curve.low, curve.high))
-    return streams.REFUSED if refusals else streams.SUCCESS
+    return streams.REFUSED if sentences else streams.SUCCESS
 
 
 # ---- picture
@@ -256,10 +280,19 @@ def add_level(commands: argparse._SubParsersAction) -> None:
     parser = subcommand(
         commands, "level", level,
         "The total that a year's claims stay within: for the level 0.99, in 99 years of 100. The smallest such lies from `possible` to\n"
-        "`sure`.",
-        "examples/poisson.txt 0.99 0.995")
+        "`sure`.\n"
+        "\n"
+        "sure      this total is enough, whatever the exact chances are from low to high\n"
+        "possible  every smaller total is too small, whatever they are\n"
+        "\n"
+        "Where there is no such total, the line has `none`, and standard error says why.",
+        "examples/poisson.txt 0.99 0.995", "examples/poisson.txt 0.995 --possible")
     add_sheet(parser)
     parser.add_argument("levels", metavar="LEVEL", nargs="+", type=level_units, help="a chance such as 0.99, or units: 990000000")
+    alone = parser.add_mutually_exclusive_group()
+    for name in QUERIES:
+        alone.add_argument(f"--{name}", action="store_const", dest="queries", const=[name], help=f"ask for the {name} total alone")
+    parser.set_defaults(queries=list(QUERIES))
 
 
 def add_picture(commands: argparse._SubParsersAction) -> None:

@@ -1,4 +1,4 @@
-"""Jobs, curves and level queries: the chance of each total as a low and a high, and the totals up to which a level is covered."""
+"""Jobs, curves and level queries: the chance of each total as a low and a high, and the totals that surely or possibly cover a level."""
 from __future__ import annotations
 
 from ctypes import byref, c_size_t
@@ -70,13 +70,6 @@ class Row(NamedTuple):
         return layout.digits(self.low, self.high, decimal_comma)
 
 
-class Quantile(NamedTuple):
-    """The answer of a level query: the smallest total at which the exact chances add up to the level lies from possible to sure, and at
-    sure they do."""
-    sure: int
-    possible: int
-
-
 @dataclass(frozen=True)
 class Curve:
     """The chances of the totals 0 to the last, in units of one billionth: three tuples, by total. Its length is the number of totals;
@@ -88,8 +81,8 @@ class Curve:
     (367879441, 183939720, 229924650, 99634015)
     >>> chances[2].digits()
     '0.22992465'
-    >>> chances.quantile(500_000_000)
-    Quantile(sure=1, possible=1)
+    >>> chances.sure(500_000_000), chances.possible(500_000_000)
+    (1, 1)
     """
     low: tuple[int, ...]
     high: tuple[int, ...]
@@ -115,9 +108,13 @@ class Curve:
     def __iter__(self) -> Iterator[Row]:
         return (self[total] for total in range(len(self)))
 
-    def quantile(self, level: int) -> Quantile:
-        """The totals up to which the chances reach a level, in units: 990_000_000 for 99 years of 100."""
-        return quantile(self.low, self.high, level)
+    def sure(self, level: int) -> int:
+        """The smallest total that is proved to be enough for a level, in units: 990_000_000 for 99 years of 100."""
+        return sure(self.low, self.high, level)
+
+    def possible(self, level: int) -> int:
+        """The smallest total that may be enough for a level: every smaller one is proved to be too small."""
+        return possible(self.low, self.high, level)
 
     def text(self) -> str:
         """The table as the program writes it."""
@@ -153,16 +150,37 @@ def curve(job: Job, weights: Iterable[int]) -> Curve:
     return Curve(tuple(low[:count]), tuple(high[:count]), tuple(bound[:count]))
 
 
-def quantile(low: Iterable[int], high: Iterable[int], level: int) -> Quantile:
-    """The level query on rows of any lows and highs: `sure` is the smallest total at which the lows, added up from total 0 on, come to the
-    level or more, `possible` the smallest at which the highs do. Refused where the lows never do, or where the rows are none of a curve."""
+def level_total(call: str, low: Iterable[int], high: Iterable[int], level: int) -> int:
+    """The total that this call of the library gives for a level in units, on rows of any lows and highs; Refused where it gives none."""
     lows, highs = row(wholes("low", low, SIGNED), SIGNED), row(wholes("high", high, SIGNED), SIGNED)
     if isinstance(level, float):
         raise ValueError(f"level: {level!r} is no whole number of units; one unit is a billionth, and 0.99 is 990_000_000")
     level = whole("level", level, SIGNED)
-    place, sure, possible = c_size_t(), c_size_t(), c_size_t()
-    number = library.calls().claimtotals_quantile(
-        lows, len(lows), highs, len(highs), level, byref(place), byref(sure), byref(possible))
+    place, total = c_size_t(), c_size_t()
+    number = getattr(library.calls(), call)(lows, len(lows), highs, len(highs), level, byref(place), byref(total))
     if number:
         raise Refused(number, place.value)
-    return Quantile(sure.value, possible.value)
+    return total.value
+
+
+def sure(low: Iterable[int], high: Iterable[int], level: int) -> int:
+    """The smallest total at which the lows, added up from total 0 on, come to the level or more. Whatever the exact chances are, from low
+    to high, they do so there too. Refused where the lows never do, where the level is not 1 to UNIT, or where the rows are none of a curve.
+
+    >>> sure([5, 4, 2], [6, 4, 3], 10)
+    2
+    """
+    return level_total("claimtotals_sure", low, high, level)
+
+
+def possible(low: Iterable[int], high: Iterable[int], level: int) -> int:
+    """The smallest total at which the highs, added up from total 0 on, come to the level or more. Whatever the exact chances are, from low
+    to high, they do so at no smaller total. Refused where the highs never do, and else as `sure` is. There may be a possible total where
+    there is no sure one; where there are both, it is at most the sure one.
+
+    >>> possible([5, 4, 2], [6, 4, 3], 10)
+    1
+    >>> possible([5, 4, 2], [6, 4, 3], 12)
+    2
+    """
+    return level_total("claimtotals_possible", low, high, level)

@@ -30,6 +30,9 @@ def row_types(kind: type) -> tuple:
     return POINTER(kind), c_size_t
 
 
+# Of the two calls of a level query: rows, level, place and total.
+LEVEL_QUERY = c_uint64, [*row_types(c_int64), *row_types(c_int64), c_int64, POINTER(c_size_t), POINTER(c_size_t)]
+
 # The answer and the parameters of each call, in the header's order.
 CALLS = {
     "claimtotals_start_mean": (c_uint64, [c_uint64, c_uint64, POINTER(c_uint64), POINTER(c_uint64)]),
@@ -49,9 +52,8 @@ CALLS = {
         POINTER(c_uint64), POINTER(c_uint64), POINTER(c_uint64), POINTER(c_size_t),
     ]),
     "claimtotals_faulty_word": (None, [BYTES, c_size_t, c_size_t, POINTER(c_size_t), POINTER(c_size_t)]),
-    "claimtotals_quantile": (c_uint64, [
-        *row_types(c_int64), *row_types(c_int64), c_int64, POINTER(c_size_t), POINTER(c_size_t), POINTER(c_size_t),
-    ]),
+    "claimtotals_sure": LEVEL_QUERY,
+    "claimtotals_possible": LEVEL_QUERY,
     "claimtotals_version": (c_uint64, []),
 }
 
@@ -100,6 +102,6 @@ def answered(name: str, given: Sequence[int], *kinds: type) -> list[int]:
 
 
 def version() -> str:
-    """That of the library: 0.4.0."""
+    """That of the library: 0.5.0."""
     number = calls().claimtotals_version()
     return f"{number // 10_000}.{number // 100 % 100}.{number % 100}"

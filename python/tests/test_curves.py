@@ -152,11 +152,10 @@ class OfCurve(unittest.TestCase):
             with self.subTest(total), self.assertRaises(ValueError):
                 self.curve[total]
 
-    def test_quantile(self):
+    def test_levels(self):
         """P9; and a level that the high of total 0 reaches, and its low does not."""
         for level, sure, possible in (500000000, 1, 1), (367879442, 1, 0):
-            found = self.curve.quantile(level)
-            self.assertEqual((found.sure, found.possible), (sure, possible))
+            self.assertEqual((self.curve.sure(level), self.curve.possible(level)), (sure, possible))
 
     def test_text(self):
         self.assertEqual(self.curve.text(), TABLE)
@@ -197,7 +196,7 @@ class OfCurve(unittest.TestCase):
             self.curve.low = ()
 
     def test_copies(self):
-        for value in self.curve, self.curve[1], self.curve.quantile(1), P1:
+        for value in self.curve, self.curve[1], P1:
             with self.subTest(type(value).__name__):
                 for other in pickle.loads(pickle.dumps(value)), copy.deepcopy(value):
                     self.assertEqual(other, value)

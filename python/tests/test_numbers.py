@@ -5,8 +5,8 @@ from decimal import Decimal
 from fractions import Fraction
 from unittest import mock
 
-from claimtotals import (Job, Refused, Sheet, curve, digits, law_hesselager, law_panjer_willmot, quantile, start_of_mean,
-                         start_of_trials)
+from claimtotals import (Job, Refused, Sheet, curve, digits, law_hesselager, law_panjer_willmot, possible, start_of_mean,
+                         start_of_trials, sure)
 
 # The paper's P2, with the weight 1.
 JOB = Job(1, 1, (-1, 0, 0, 0), (3, 0, 0, 0), 250000000, 250000000, 4)
@@ -54,9 +54,10 @@ def takers():
     yield "weights[0]", "unsigned", lambda number: curve(JOB, [number])
     yield "weights[2]", "unsigned", lambda number: curve(JOB, iter([1, 1, number]))
     yield "weights[1]", "unsigned", lambda number: Sheet(JOB, [1, number]).text()
-    yield "low[1]", "signed", lambda number: quantile([0, number], [0, 3], 3)
-    yield "high[0]", "signed", lambda number: quantile([0, 3], [number, 3], 3)
-    yield "level", "signed", lambda number: quantile([3], [3], number)
+    for query in sure, possible:
+        yield "low[1]", "signed", lambda number, query=query: query([0, number], [0, 3], 3)
+        yield "high[0]", "signed", lambda number, query=query: query([0, 3], [number, 3], 3)
+        yield "level", "signed", lambda number, query=query: query([3], [3], number)
     yield "low", "signed", lambda number: digits(number, 5)
     yield "high", "signed", lambda number: digits(-5, number)
     yield "divisor", "unsigned", lambda number: Job.of(number, [(0, 1)], (1, 1), 1)
@@ -128,8 +129,9 @@ class NoCall(unittest.TestCase):
                 self.check("weights", curve, JOB, given)
                 self.check("weights", Sheet(JOB, given).text)
                 self.check("a", curve, JOB._replace(a=given), [1])
-                self.check("low", quantile, given, [1, 1], 1)
-                self.check("high", quantile, [1, 1], given, 1)
+                for query in sure, possible:
+                    self.check("low", query, given, [1, 1], 1)
+                    self.check("high", query, [1, 1], given, 1)
                 self.check("terms", Job.of, 1, given, (1, 1), 1)
                 self.check("terms[0]", Job.of, 1, [given], (1, 1), 1)
                 self.check("start", Job.of, 1, [(0, 1)], given, 1)
@@ -137,7 +139,7 @@ class NoCall(unittest.TestCase):
     def test_nested(self):
         self.check("weights[0]", curve, JOB, [[1, 1]])
         self.check("weights[0]", curve, JOB, [[1] * 100_000])
-        self.check("low[0]", quantile, [[1]], [[1]], 1)
+        self.check("low[0]", sure, [[1]], [[1]], 1)
 
 
 class Taken(unittest.TestCase):
@@ -153,7 +155,8 @@ class Taken(unittest.TestCase):
                 self.assertEqual((found.low, found.high), (asked, asked))
                 self.assertEqual(found[three], (3, 0, 0, 1))
                 self.assertIs(type(found[three].total), int)
-                self.assertEqual(quantile([one, three], [three, three], three), (1, 0))
+                self.assertEqual(sure([one, three], [three, three], three), 1)
+                self.assertEqual(possible([one, three], [three, three], three), 0)
                 self.assertEqual(digits(one, three), "at most 0.000000003")
                 self.assertEqual(start_of_mean(three, three), (367879441, 367879442))
                 self.assertEqual(start_of_trials(one, three, one), (666666666, 666666667))
@@ -166,8 +169,8 @@ class Taken(unittest.TestCase):
         for number, call in (
                 (1, lambda: curve(JOB._replace(order=2 ** 64 - 1), [1])), (3, lambda: curve(with_term("a", 0, 2 ** 63 - 1), [1])),
                 (3, lambda: curve(with_term("b", 0, -2 ** 63), [1])), (6, lambda: curve(JOB, [2 ** 64 - 1])),
-                (32, lambda: quantile([1], [1], 2 ** 63 - 1)), (32, lambda: quantile([1], [1], -2 ** 63)),
-                (33, lambda: quantile([-2 ** 63], [2 ** 63 - 1], 1)), (41, lambda: start_of_mean(2 ** 64 - 1)),
+                (32, lambda: sure([1], [1], 2 ** 63 - 1)), (32, lambda: possible([1], [1], -2 ** 63)),
+                (33, lambda: possible([-2 ** 63], [2 ** 63 - 1], 1)), (41, lambda: start_of_mean(2 ** 64 - 1)),
                 (41, lambda: start_of_mean(1, 2 ** 64 - 1)), (41, lambda: start_of_trials(0, 2 ** 64 - 1, 1)),
                 (42, lambda: start_of_trials(2 ** 64 - 1, 1, 1)), (43, lambda: start_of_trials(0, 1, 2 ** 64 - 1)),
                 (51, lambda: law_panjer_willmot(2 ** 63 - 1, 1, 1, 0)), (51, lambda: law_hesselager(-2 ** 63, 1, 1, 0)),

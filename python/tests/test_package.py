@@ -9,8 +9,8 @@ import typing
 import unittest
 
 import claimtotals
-from claimtotals import (Job, Refused, curve, law_hesselager, law_panjer_willmot, library, quantile, read_sheet, start_of_mean,
-                         start_of_trials)
+from claimtotals import (Job, Refused, curve, law_hesselager, law_panjer_willmot, library, possible, read_sheet, start_of_mean,
+                         start_of_trials, sure)
 
 # All but `__main__`, which is the command itself and would run.
 FILES = [path for path in pathlib.Path(claimtotals.__file__).parent.glob("*.py") if not path.name.startswith("_")]
@@ -27,8 +27,8 @@ def load_tests(_, tests, pattern):
 class Names(unittest.TestCase):
     def test_all(self):
         self.assertEqual(set(claimtotals.__all__), {
-            "MOST_BYTES", "UNIT", "Curve", "Job", "Law", "Quantile", "Refused", "Row", "Sheet", "Start", "curve", "digits",
-            "law_hesselager", "law_panjer_willmot", "quantile", "read_sheet", "start_of_mean", "start_of_trials"})
+            "MOST_BYTES", "UNIT", "Curve", "Job", "Law", "Refused", "Row", "Sheet", "Start", "curve", "digits", "law_hesselager",
+            "law_panjer_willmot", "possible", "read_sheet", "start_of_mean", "start_of_trials", "sure"})
         for name in claimtotals.__all__:
             self.assertTrue(hasattr(claimtotals, name), name)
 
@@ -71,7 +71,7 @@ class Types(unittest.TestCase):
     def test_functions(self):
         """Each parameter has a type that can be looked up, and so has what is returned."""
         some = {"curve", "read_sheet", "start_of_mean", "law_hesselager", "Job.of", "Sheet.text", "Sheet.curve", "Start.line", "Law.lines",
-                "Curve.quantile", "Curve.__getitem__", "Row.digits"}
+                "Curve.sure", "Curve.possible", "Curve.__getitem__", "Row.digits"}
         self.assertLessEqual(some, set(dict(functions())))
         for name, function in functions():
             with self.subTest(name):
@@ -79,7 +79,7 @@ class Types(unittest.TestCase):
                 self.assertEqual(set(typing.get_type_hints(function)), {*parameters, "return"})
 
     def test_fields(self):
-        for kind in claimtotals.Job, claimtotals.Sheet, claimtotals.Row, claimtotals.Quantile, claimtotals.Start, claimtotals.Law:
+        for kind in claimtotals.Job, claimtotals.Sheet, claimtotals.Row, claimtotals.Start, claimtotals.Law:
             self.assertEqual(tuple(typing.get_type_hints(kind)), kind._fields)
         self.assertEqual(set(typing.get_type_hints(claimtotals.Law.terms.fget)), {"return"})
         self.assertEqual(tuple(typing.get_type_hints(claimtotals.Curve)), ("low", "high", "bound"))
@@ -113,7 +113,8 @@ def word(number):
 
 
 def level(total):
-    return quantile([0] * total + [1], [1] * (total + 1), 1)
+    low, high = [0] * total + [1], [1] * (total + 1)
+    return sure(low, high, 1), possible(low, high, 1)
 
 
 def starts(number):

@@ -3,8 +3,8 @@ import copy
 import pickle
 import unittest
 
-from claimtotals import (UNIT, Job, Refused, curve, law_hesselager, law_panjer_willmot, quantile, read_sheet, start_of_mean,
-                         start_of_trials)
+from claimtotals import (UNIT, Job, Refused, curve, law_hesselager, law_panjer_willmot, possible, read_sheet, start_of_mean,
+                         start_of_trials, sure)
 
 # The paper's P1 as a sheet and P2 as a job.
 TEXT = b"LAW 1 1\nTERM 0 1\nSTART 367879441 367879442\nLAST 3\nSEVERITY 2\nW 1\nW 1\n"
@@ -28,10 +28,11 @@ CASES = {
     24: ("Word", 6, "line", lambda: changed(b"2\nW 1\n", b"2\nW 10n5\n")),
     25: ("Limit", 1, "line", lambda: changed(b"LAW 1", b"LAW 5")),
     26: ("Excess", 8, "line", lambda: read_sheet(TEXT + b"W 1\n")),
-    31: ("Rows", 0, "", lambda: quantile([], [], 1)),
-    32: ("Level", 0, "", lambda: quantile([1], [1], 0)),
-    33: ("Entry", 1, "place", lambda: quantile([1, 2], [1, 1], 1)),
-    34: ("Unreached", 0, "", lambda: quantile([1], [1], 2)),
+    31: ("Rows", 0, "", lambda: sure([], [], 1)),
+    32: ("Level", 0, "", lambda: possible([1], [1], 0)),
+    33: ("Entry", 1, "place", lambda: sure([1, 2], [1, 1], 1)),
+    34: ("LowsShort", 0, "", lambda: sure([1], [2], 2)),
+    35: ("HighsShort", 0, "", lambda: possible([1], [2], 3)),
     41: ("Fraction", 0, "", lambda: start_of_mean(37, 0)),
     42: ("Chance", 0, "", lambda: start_of_trials(5, 1, 30)),
     43: ("Trials", 0, "", lambda: start_of_trials(1, 20, 0)),
