@@ -13,7 +13,10 @@ uint64_t plain_read_sheet(const uint8_t *sheet, size_t sheet_length, uint64_t *r
                           uint64_t *divisor, int64_t a[4], int64_t b[4], uint64_t *start_low, uint64_t *start_high, uint64_t *last,
                           size_t *count);
 
-uint64_t plain_quantile(const int64_t *low, size_t low_length, const int64_t *high, size_t high_length, int64_t level, size_t *place,
-                        size_t *sure, size_t *possible);
+uint64_t plain_sure(const int64_t *low, size_t low_length, const int64_t *high, size_t high_length, int64_t level, size_t *place,
+                    size_t *total);
+
+uint64_t plain_possible(const int64_t *low, size_t low_length, const int64_t *high, size_t high_length, int64_t level, size_t *place,
+                        size_t *total);
 
 #endif
