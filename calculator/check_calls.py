@@ -5,6 +5,7 @@ and that the program's files stdin and stdout hold just these calls and the calc
 first."""
 import pathlib
 import sys
+from collections import Counter
 from typing import NamedTuple
 
 import cases_curve
@@ -18,7 +19,7 @@ from level import possible, sure
 from limits import LAST_TOTAL
 from outward import Lent, curve
 from published import law_hesselager, law_panjer_willmot
-from reached import untrue_totals
+from reached import answers, untrue_totals
 from sheet import read_sheet
 from start import start_of_mean, start_of_trials
 from started import outside_mean, outside_trials
@@ -29,12 +30,17 @@ FOLDER = pathlib.Path(__file__).parent.parent / "crates/calls"
 MARK = -2 ** 63
 
 
+# how often sure and possible are answered by these numbers, at least, on the curves' rows
+LEVELS = {(0, 0): 1000, (34, 0): 500, (34, 35): 100}
+
+
 class Call(NamedTuple):
-    """A case as the program has it, and what is wrong with it."""
+    """A case as the program has it, and what is wrong with it; and of a curve, the numbers of the answers to the levels that were tried."""
     name: str
     record: bytes
     line: bytes
     faults: list
+    levels: tuple = ()
 
 
 def words(*numbers):
@@ -73,10 +79,14 @@ def curve_faults(case, said, lent):
     yield from differences((case.number, case.place), said)
     if case.rows:
         yield from differences(list(case.rows), [row[:case.job.last + 1] for row in (lent.low, lent.high, lent.bound)])
-    if said == (0, 0):
-        amounts = amounts_per_unit(case.job, case.law, case.exact_to)
-        yield from outside(case.job, lent, amounts)
-        yield from untrue_totals(case.job, lent, amounts)
+
+
+def exact_checks(case, lent):
+    """Of an accepted curve: its faults, and the numbers that sure and possible answered at the levels that were tried."""
+    amounts = amounts_per_unit(case.job, case.law, case.exact_to)
+    levels = answers(lent, len(amounts))
+    faults = [*outside(case.job, lent, amounts), *untrue_totals(case.job, levels, amounts)]
+    return faults, [(said.number, may_be.number) for said, may_be in levels.values()]
 
 
 def curve_call(case):
@@ -85,11 +95,13 @@ def curve_call(case):
     lent = Lent(*([MARK] * n for n in places))
     said = curve(job, lent)
     written = [[f"{x}={held}" for x, held in enumerate(row) if held != MARK] for row in (lent.low, lent.high, lent.bound, lent.work)]
+    faults, levels = exact_checks(case, lent) if said == (0, 0) else ([], [])
     return Call(
         case.name,
         words(2, job.order, job.divisor, *job.a, *job.b, job.low_start, job.high_start, job.last) + counted(job.weights) + words(*places),
         line(said, *written),
-        list(curve_faults(case, said, lent)),
+        [*curve_faults(case, said, lent), *faults],
+        levels,
     )
 
 
@@ -173,10 +185,13 @@ def main():
         faults.append("stdin does not hold the cases' calls")
     if len(lines) != len(calls):
         faults.append(f"stdout has {len(lines)} lines for {len(calls)} calls")
+    levels = Counter(numbers for call in calls for numbers in call.levels)
+    if any(levels[numbers] < least for numbers, least in LEVELS.items()):
+        faults.append(f"too few levels were tried on the curves: {dict(levels)}")
     kinds = (f"{len(cases_reader.CASES)} sheets, {len(cases_curve.CASES)} curves, {len(cases_level.CASES)} levels, "
              f"{len(cases_start.MEANS) + len(cases_start.TRIALS)} starts, "
              f"{len(cases_published.PANJER_WILLMOT) + len(cases_published.HESSELAGER)} laws")
-    print(*faults, f"calls: {kinds} set beside the calculator, {len(faults)} faults", sep="\n")
+    print(*faults, f"calls: {kinds} set beside the calculator, {sum(levels.values())} levels on the curves, {len(faults)} faults", sep="\n")
     if faults:
         sys.exit(1)
 

@@ -34,12 +34,15 @@ def off_sums(sure_said, possible_said, sums, level):
         yield f"possible is refused by 35, and the exact sum reaches the level at {quantile}"
 
 
-def untrue_totals(job, rows, amounts):
-    """What is wrong at some levels, for both starts and one between, on the rows as far as the exact amounts are known, which `amounts`
-    has per unit of the start."""
-    low, high = rows.low[:len(amounts)], rows.high[:len(amounts)]
+def answers(rows, count):
+    """What sure and possible say at some levels, of the first so many places of the rows."""
+    low, high = rows.low[:count], rows.high[:count]
+    return {level: (sure(low, high, level), possible(low, high, level)) for level in some_levels(low, high)}
+
+
+def untrue_totals(job, said, amounts):
+    """What is wrong with these answers, for both starts and one between; `amounts` are the exact ones per unit of the start."""
     sums = {start: [start * so_far for so_far in accumulate(amounts)] for start in starts(job)}
-    for level in some_levels(low, high):
-        said = sure(low, high, level), possible(low, high, level)
-        yield from (f"level {level}: {fault}" for fault in off_each_other(*said))
-        yield from (f"level {level}, start {start}: {fault}" for start in sums for fault in off_sums(*said, sums[start], level))
+    for level, pair in said.items():
+        yield from (f"level {level}: {fault}" for fault in off_each_other(*pair))
+        yield from (f"level {level}, start {start}: {fault}" for start in sums for fault in off_sums(*pair, sums[start], level))

@@ -17,8 +17,8 @@ from start import LAST_TERM
 
 # the lines that questions 2.4, 2.5 and 4.2 ask for
 START_2_4, W_2_5, LAST_4_2 = "START 1001 1001", "W 2", "LAST 500"
-# e^-1 to three digits
-START_WIDE = "START 367000000 368000000"
+# e^-1 to three digits, and a wide start for what is missing
+START_WIDE, START_TURNED = "START 367000000 368000000", "START 400000 790000"
 
 HALF, THIRD, QUARTER, FIFTH = (Fraction(1, n) for n in (2, 3, 4, 5))
 E_1, E_HALF, E_QUARTER, E_4 = (Fraction(Context(prec=50).exp(Decimal(power))) for power in ("-1", "-0.5", "-0.25", "-4"))
@@ -125,8 +125,7 @@ def short_table():
     low, high = sums_to(last, "poisson.txt")
     neither = sure_and_possible(LEVEL_99, "poisson.txt", f"LAST {last}") == ["refused by 34", "refused by 35"]
     yield f"Write `LAST {last}` in `poisson.txt`, and ask for the level {LEVEL_99 / UNIT}."
-    yield where(neither and high < LEVEL_99, "Possible is refused too, by 35, where even the highs of the whole table add up to less than "
-                                             "the level (question 1.5).")
+    yield where(neither, "Possible is refused too, by 35, where the sum of highs reaches the level at no total of the table (question 1.5).")
     yield where(neither, f"The lows of the whole table add up to {low}, so sure is refused by 34. The highs add up to {high}, so possible "
                          f"is refused by 35. That says more: whatever the chances are between low and high, their sum reaches the level "
                          f"at no total of this table.")
@@ -181,6 +180,11 @@ def mowers_level():
                 f"least {missing} is missing, and the year costs at most {whole} - {missing} = {exact_total}. To be able to pay "
                 f"{exact_total - 1} is not enough: up to total {missing} the lows add up to {low}, so the year costs {exact_total} or more "
                 f"with a chance of at least {nine_digits(low)}.")
+    most, least = sure_and_possible(LEVEL_1, "turned.txt", START_TURNED)
+    by_sure, by_possible = (sum(MOWERS[:whole - missing + 1]) for missing in (most, least))
+    yield where(by_sure < LEVEL_99 <= by_possible,
+                f"Where the two differ they change places here, as the table counts what is missing: a reserve of {whole} less possible is "
+                f"safe, and one of {whole} less sure need not be.")
 
 
 def poisson_start():

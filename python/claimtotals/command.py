@@ -285,7 +285,7 @@ def add_level(commands: argparse._SubParsersAction) -> None:
         "sure      this total is enough, whatever the exact chances are from low to high\n"
         "possible  every smaller total is too small, whatever they are\n"
         "\n"
-        "Where there is no such total, the line has `none`, and standard error says why.",
+        "Where there is no such total, or the level is refused, the line has `none`, and standard error says why.",
         "examples/poisson.txt 0.99 0.995", "examples/poisson.txt 0.995 --possible")
     add_sheet(parser)
     parser.add_argument("levels", metavar="LEVEL", nargs="+", type=level_units, help="a chance such as 0.99, or units: 990000000")

@@ -157,6 +157,13 @@ class OfCurve(unittest.TestCase):
         for level, sure, possible in (500000000, 1, 1), (367879442, 1, 0):
             self.assertEqual((self.curve.sure(level), self.curve.possible(level)), (sure, possible))
 
+    def test_levels_of_wrong_rows(self):
+        """Both rows go to both calls: a low above its high is refused, also where the row that a call adds up would do."""
+        for query in Curve.sure, Curve.possible:
+            with self.subTest(query), self.assertRaises(Refused) as raised:
+                query(Curve((5, 9), (5, 2), (0, 0)), 5)
+            self.assertEqual((raised.exception.number, raised.exception.place), (33, 1))
+
     def test_text(self):
         self.assertEqual(self.curve.text(), TABLE)
         self.assertEqual(curve(P3, (1,)).text(), "TOTAL LOW HIGH BOUND\n0 1 2 1\n1 -1 0 2\n")

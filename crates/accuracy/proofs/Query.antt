@@ -2,7 +2,7 @@
 -- has a fault; so the level queries do not refuse them, and what they tell is true of the exact amounts.
 use mathlib.Core.Path.{_≡_, refl, sym}
 use mathlib.Core.Bool.{false}
-use mathlib.Core.List.{List, [], _∷_}
+use mathlib.Core.List.{List, _∷_}
 use Prim.Native.Nat.{ℕ, _+_, _≤_, _<_}
 use native.Mathlib.Nat as NL
 use native.Mathlib.Omega.{arith}

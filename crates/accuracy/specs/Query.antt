@@ -1,6 +1,6 @@
 -- What the level queries on the rows of an accepted job say of the job's exact amounts.
 use mathlib.Core.Path.{_≡_}
-use mathlib.Core.List.{List, [], _∷_}
+use mathlib.Core.List.{List, _∷_}
 use Prim.Native.Nat.{ℕ, _+_}
 use lib.IntN.{ℤ, pos}
 use lib.ListN.{take}
@@ -40,7 +40,8 @@ OfEveryStart Said = (job : Job) (weights : List ℕ) (lent : Lent) → Accepted 
 abbrev pub RowsEnclose : Type 0
 RowsEnclose = OfEveryStart Enclose
 
--- what the queries tell is true of the exact amounts: where sure is accepted these have a quantile, and it lies from possible to sure; where
--- possible alone is, a quantile of theirs is at least possible; after 35 no sum of theirs from 0 to a total up to X reaches the level
+-- what the queries tell is true of the exact amounts: where sure is accepted these have a quantile, and it lies from possible to sure;
+-- where possible alone is, a quantile of theirs is at least possible; after 35 no sum of theirs, from 0 to a total up to X, reaches the
+-- level
 abbrev pub EnclosesQuantile : Type 0
 EnclosesQuantile = OfEveryStart (λ low high amounts. (level : ℤ) → QueriesTrue low high level amounts)

@@ -1,27 +1,27 @@
 -- Amounts that are larger at each total reach a level where smaller ones do (`reached-more`). The lows, the amounts that the rows enclose
 -- and the highs are in this order, so their quantiles are in the opposite one.
 use mathlib.Core.Path.{_≡_, refl, sym, ap, _∙_}
-use mathlib.Core.Bool.{Bool, true, false, true≢false, cond}
-use mathlib.Core.List.{List, []}
+use mathlib.Core.Bool.{true, false, true≢false, cond}
+use mathlib.Core.List.{List, [], _++_}
 use Prim.Native.Nat.{ℕ, _≤_, _<_}
 use native.Mathlib.Nat as NL
 use native.Mathlib.Decide.{decLe}
 use native.Mathlib.Omega.{arith}
-use borrow.Author.Tests.{eqb-true, eqb-false, ne-eqb}
-use lib.Dec.{eqb}
+use borrow.Author.Tests.{eqb-true, eqb-false, eq-eqb, ne-eqb}
+use lib.Dec.{T, eqb}
 use lib.IntN.{ℤ, pos}
 use lib.Signed.{leZ}
 use lib.ListN.{length, getD}
 use Rattle.algebra.specs.Fraction.{Fraction, whole, _≼_, zeroTo}
 use Rattle.algebra.proofs.Smallest.{smallest-finds, least-exists}
 use Rattle.algebra.proofs.Value.{≼-trans, ≼-dec, zeroTo-mono, whole-mono, whole-le-sum, le-of-whole-sum}
-use Rattle.model.specs.Answer.{Answer, accepted, refused, isAccepted, firstOf}
-use Rattle.model.proofs.Answer.{first-none, first-fails, by-first, first-append, none-holds, first-passed}
+use Rattle.model.specs.Answer.{Answer, Condition, accepted, refused, isAccepted, firstOf}
+use Rattle.model.proofs.Answer.{first-none, first-holds, first-fails, by-first, lacks, none-holds}
 use Rattle.intervals.specs.Amounts.{entries, Enclose}
 use Rattle.intervals.proofs.Passed.{Passed, passed}
 use Rattle.quantile.specs.Call.{runningSum, quantileOf, checks, unreached, reachCheck, queryBy, sureQuery, possibleQuery}
 use Rattle.quantile.specs.Enclosed.{Reached, UnreachedBefore, Quantile, QuantileFrom, Accepted, QueriesTrue}
-use Rattle.quantile.specs.Enclosed.{OneQuantile, SureOfLows, PossibleOfHighs, PossibleWithSure, QuantileEnclosed}
+use Rattle.quantile.specs.Enclosed.{OneQuantile, SureOfLows, PossibleOfHighs, PossibleWithSure, ShortTogether, QuantileEnclosed}
 
 -- ---- amounts
 reached-more : (f g : ℕ → Fraction) (level : ℤ) (x : ℕ) → ((z : ℕ) → z ≤ x → f z ≼ g z) → Reached f level x → Reached g level x
@@ -59,7 +59,7 @@ module _ (row : List ℤ) (level : ℤ) where
   row-fails : (x : ℕ) → leZ level (runningSum row x) ≡ false → ¬ Reached (entries row) level x
   row-fails x e h = rw e at (le-of-whole-sum level x (λ z. getD row z (pos 0)) h .le)
 
-  row-at-most : quantileOf row level ≤ length row
+  pub row-at-most : quantileOf row level ≤ length row
   unfolding quantileOf
   row-at-most = smallest-finds (λ x. leZ level (runningSum row x)) (length row) .0
 
@@ -78,22 +78,39 @@ module _ (row : List ℤ) (level : ℤ) where
   row-quantile l = record { reached = row-reached l; first = row-unreached }
 
 -- ---- what the answers say of the rows
+-- none of the checks holds, so that what follows them is what counts
+record ChecksPassed (low high : List ℤ) (level : ℤ) : Type 0 where
+  rows : Passed low high
+  skipped : (own : List Condition) → firstOf (checks low high level ++ own) ≡ firstOf own
+
 -- a call by a row that is accepted
 record AcceptedBy (row low high : List ℤ) (level : ℤ) (total : ℕ) : Type 0 where
-  rows : Passed low high
+  checked : ChecksPassed low high level
   below : quantileOf row level < length row
   is : total ≡ quantileOf row level
 
 module _ (row : List ℤ) (number : ℕ) (low high : List ℤ) (level : ℤ) where
+  -- the answer is no refusal of the checks
+  past-checks : {answer : Answer} → T (lacks (answer .number) (checks low high level))
+      → queryBy row number low high level .answer ≡ answer → ChecksPassed low high level × (firstOf (reachCheck row number level) ≡ answer)
+  past-checks t e =
+      let fails = none-holds (checks low high level) (reachCheck row number level) t e in (
+        record {
+          rows = passed low high (fails .0 31) (fails .0 33);
+          skipped = λ own. first-fails _ _ (fails .0 31) ∙ first-fails _ _ (fails .0 32) ∙ first-fails _ _ (fails .0 33);
+        },
+        fails .1,
+      )
+
   row-checked : eqb number 0 ≡ false → firstOf (reachCheck row number level) ≡ accepted → unreached row level ≡ false
   row-checked numbered = by-first (λ a. a ≡ accepted → unreached row level ≡ false) _ number 0 []
       (λ holds e. absurd (true≢false (sym (ap isAccepted e) ∙ numbered))) (λ fails e. fails)
 
   accepted-by : eqb number 0 ≡ false → Accepted (queryBy row number low high level)
       → AcceptedBy row low high level (queryBy row number low high level .total)
-  accepted-by numbered ok = let fails = none-holds (checks low high level) (reachCheck row number level) tt ok in record {
-    rows = passed low high (fails .0 31) (fails .0 33);
-    below = row-below row level (row-checked numbered (fails .1));
+  accepted-by numbered ok = let passes = past-checks tt ok in record {
+    checked = passes .0;
+    below = row-below row level (row-checked numbered (passes .1));
     is = ap (λ (a : Answer). cond (isAccepted a) (quantileOf row level) 0) ok;
   }
 
@@ -117,29 +134,45 @@ module _ (low high : List ℤ) (level : ℤ) where
   highs-short = by-first (λ a. a ≡ refused 35 0 → unreached high level ≡ true) _ 35 0 [] (λ holds e. holds)
       (λ fails e. absurd (true≢false (ap isAccepted (sym first-none ∙ e))))
 
-  short-by : possibleQuery low high level .answer ≡ refused 35 0 → Passed low high × (byHighs ≡ length high)
+  short-by : possibleQuery low high level .answer ≡ refused 35 0 → ChecksPassed low high level × (byHighs ≡ length high)
   unfolding possibleQuery
-  short-by e =
-      let fails = none-holds (checks low high level) (reachCheck high 35 level) tt e in
-      (passed low high (fails .0 31) (fails .0 33), eqb-true _ _ (highs-short (fails .1)))
+  short-by e = let passes = past-checks high 35 low high level tt e in (passes .0, eqb-true _ _ (highs-short (passes .1)))
 
   -- ---- lows before highs
+  lows-unreached : Passed low high → UnreachedBefore (entries low) level byHighs
+  lows-unreached rows =
+      unreached-less (entries low) (entries high) level byHighs
+      (λ z l. whole-mono (rows .ordered z (omega (arith, rows .same, row-at-most high level)))) (row-unreached high level)
+
   in-order : Passed low high → byLows < length low → byHighs ≤ byLows
-  in-order rows below =
-      not-before (entries low) level byLows byHighs (row-reached low level below)
-      (unreached-less (entries low) (entries high) level byHighs
-      (λ z l. whole-mono (rows .ordered z (omega (arith, rows .same, row-at-most high level)))) (row-unreached high level))
+  in-order rows below = not-before (entries low) level byLows byHighs (row-reached low level below) (lows-unreached rows)
 
   possible-too : Accepted (sureQuery low high level) → Accepted (possibleQuery low high level)
-  unfolding sureQuery possibleQuery
+  unfolding possibleQuery
   possible-too ok =
       let by = sure-by ok in
-      let below : byHighs < length high = omega (arith, in-order (by .rows) (by .below), by .below, by .rows .same) in
-      first-append (checks low high level) (reachCheck high 35 level) tt
-      ∙ ap (λ (t : Bool). cond t (firstOf (reachCheck high 35 level)) (firstOf (checks low high level)))
-      (first-passed (checks low high level) (reachCheck low 34 level) tt ok)
+      let rows = by .checked .rows in
+      let below : byHighs < length high = omega (arith, in-order rows (by .below), by .below, rows .same) in
+      by .checked .skipped (reachCheck high 35 level)
       ∙ first-fails _ [] (ne-eqb byHighs (length high) (λ same. omega (arith, same, below)))
       ∙ first-none
+
+  -- lows that reached the level would do so before the highs' end
+  lows-short : ChecksPassed low high level → byHighs ≡ length high → byLows ≡ length low
+  lows-short checked e = by (decLe (length low) byLows)
+    where
+      by : Dec (length low ≤ byLows) → byLows ≡ length low
+      by (yes l) = NL.le-antisymm (row-at-most low level) l
+      by (no l) =
+          let below : byLows < length low = omega arith in
+          let no-later = in-order (checked .rows) below in
+          absurd (omega (arith, below, no-later, e, checked .rows .same))
+
+  sure-too : possibleQuery low high level .answer ≡ refused 35 0 → sureQuery low high level .answer ≡ refused 34 0
+  unfolding sureQuery
+  sure-too e =
+      let by = short-by e in
+      by .0 .skipped (reachCheck low 34 level) ∙ first-holds _ [] (eq-eqb byLows (length low) (lows-short (by .0) (by .1)))
 
   -- ---- the amounts between them
   module _ (amount : ℕ → Fraction) (inside : Enclose low high amount) where
@@ -157,11 +190,12 @@ module _ (low high : List ℤ) (level : ℤ) where
       sure-reached = λ ok. let by = sure-by ok in rw (by .is) (reached-by-lows (by .below));
       between = λ ok. let by = sure-by ok in
           rw (by .is, possible-by (possible-too ok) .is)
-          (quantile-from amount level byHighs byLows (unreached-by-highs (by .rows)) (reached-by-lows (by .below)));
-      before-possible = λ ok. let by = possible-by ok in rw (by .is) (unreached-by-highs (by .rows));
+          (quantile-from amount level byHighs byLows (unreached-by-highs (by .checked .rows)) (reached-by-lows (by .below)));
+      before-possible = λ ok. let by = possible-by ok in rw (by .is) (unreached-by-highs (by .checked .rows));
       at-least-possible = λ ok x quantile. let by = possible-by ok in
-          rw (by .is) (not-before amount level x byHighs (quantile .reached) (unreached-by-highs (by .rows)));
-      unreached = λ short. let by = short-by short in rw (by .0 .same, sym (by .1)) (unreached-by-highs (by .0));
+          rw (by .is) (not-before amount level x byHighs (quantile .reached) (unreached-by-highs (by .checked .rows)));
+      none-reached = λ short. let by = short-by short in
+          rw (by .0 .rows .same, sym (by .1)) (unreached-by-highs (by .0 .rows));
     }
 
 pub sure-of-lows : SureOfLows
@@ -174,7 +208,10 @@ pub possible-with-sure : PossibleWithSure
 possible-with-sure low high level ok =
     let by = sure-by low high level ok in
     let too = possible-too low high level ok in
-    (too, rw (by .is, possible-by low high level too .is) (in-order low high level (by .rows) (by .below)))
+    (too, rw (by .is, possible-by low high level too .is) (in-order low high level (by .checked .rows) (by .below)))
+
+pub short-together : ShortTogether
+short-together = sure-too
 
 pub quantile-enclosed : QuantileEnclosed
 quantile-enclosed = queries-true

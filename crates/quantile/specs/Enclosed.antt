@@ -40,7 +40,7 @@ pub record QueriesTrue (low high : List ℤ) (level : ℤ) (amount : ℕ → Fra
   pub at-least-possible : Accepted (possibleQuery low high level)
       → (x : ℕ) → Quantile amount level x → possibleQuery low high level .total ≤ x
   -- after 35 no sum of theirs reaches it, at any total of the rows
-  pub unreached : possibleQuery low high level .answer ≡ refused 35 0 → UnreachedBefore amount level (length low)
+  pub none-reached : possibleQuery low high level .answer ≡ refused 35 0 → UnreachedBefore amount level (length low)
 
 -- ---- the statements
 -- amounts have at most one quantile
@@ -61,6 +61,11 @@ PossibleOfHighs = (low high : List ℤ) (level : ℤ) → Accepted (possibleQuer
 abbrev pub PossibleWithSure : Type 0
 PossibleWithSure = (low high : List ℤ) (level : ℤ) → Accepted (sureQuery low high level)
     → Accepted (possibleQuery low high level) × (possibleQuery low high level .total ≤ sureQuery low high level .total)
+
+-- where possible is refused by 35 sure is refused by 34
+abbrev pub ShortTogether : Type 0
+ShortTogether = (low high : List ℤ) (level : ℤ) → possibleQuery low high level .answer ≡ refused 35 0
+    → sureQuery low high level .answer ≡ refused 34 0
 
 -- the queries are true of all amounts that the rows enclose
 abbrev pub QuantileEnclosed : Type 0

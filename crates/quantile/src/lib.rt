@@ -9,7 +9,9 @@ use search::quantile_of;
 ghost use mathlib.Core.Path.{_≡_};
 ghost use Rattle.model.specs.Answer.{firstOf};
 ghost use Rattle.intervals.specs.Checks.{Summable};
+ghost use Rattle.quantile.specs.declared.check.Check.the-variants.{Passed};
 ghost use Rattle.quantile.specs.Call.{numberOf, paper, quantileOf, reachCheck, answered, sureQuery, possibleQuery};
+ghost use Rattle.quantile.specs.Checked.{checkAnswer, afterChecks};
 
 // Why a query refuses.
 pub enum Reason {
@@ -51,28 +53,33 @@ fn total_of(row: &[i64], level: i64, short: Reason) -> QuantileAnswer
         (quantileOf (now (row .entry)) level) ⌝ }
 {
     let total = quantile_of(row, level);
-    if total == row.len() {
-        return QuantileAnswer::Refused(short, 0);
+    if total < row.len() {
+        return QuantileAnswer::Total(total);
     }
-    QuantileAnswer::Total(total)
+    QuantileAnswer::Refused(short, 0)
+}
+
+// A query by one of the rows, after the checks.
+fn query_by(check: Check, row: &[i64], level: i64, short: Reason) -> QuantileAnswer
+    requires { ⌜ (check ≡ Passed → Summable (now row)) ⌝ }
+    ensures { λ r. ⌜ paper r ≡ afterChecks (checkAnswer check) (now (row .entry)) (numberOf short) level ⌝ }
+{
+    match check {
+        Check::Passed => total_of(row, level, short),
+        Check::Refused(reason, place) => QuantileAnswer::Refused(reason, place),
+    }
 }
 
 // The smallest total whose lows, summed from total 0, reach the level.
 pub fn sure(low: &[i64], high: &[i64], level: i64) -> QuantileAnswer
     ensures { λ r. ⌜ paper r ≡ sureQuery (now (low .entry)) (now (high .entry)) level ⌝ }
 {
-    match checked(low, high, level) {
-        Check::Passed => total_of(low, level, Reason::LowsShort),
-        Check::Refused(reason, place) => QuantileAnswer::Refused(reason, place),
-    }
+    query_by(checked(low, high, level), low, level, Reason::LowsShort)
 }
 
 // The smallest total whose highs, summed from total 0, reach the level. The lows need not.
 pub fn possible(low: &[i64], high: &[i64], level: i64) -> QuantileAnswer
     ensures { λ r. ⌜ paper r ≡ possibleQuery (now (low .entry)) (now (high .entry)) level ⌝ }
 {
-    match checked(low, high, level) {
-        Check::Passed => total_of(high, level, Reason::HighsShort),
-        Check::Refused(reason, place) => QuantileAnswer::Refused(reason, place),
-    }
+    query_by(checked(low, high, level), high, level, Reason::HighsShort)
 }

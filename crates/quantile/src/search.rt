@@ -1,4 +1,4 @@
-// The one search of the level query: sure is its answer on the lows, possible its answer on the highs.
+// The one search of the level queries: sure is its answer on the lows, possible its answer on the highs.
 
 ghost use mathlib.Core.Path.{_≡_};
 ghost use Rattle.intervals.specs.Checks.{Summable};

@@ -1,42 +1,20 @@
--- By the two cases of what the checks tell.
+-- The checks and the lows' own check are the call's list of conditions.
 use borrow.Author.Needs.{needs}
-use mathlib.Core.Path.{_≡_, sym, ap, _∙_}
+use mathlib.Core.Path.{_∙_}
 use mir.Facts.{toZ-ofZ}
-use Rattle.quantile.specs.declared.check.Check.{Check}
-use Rattle.quantile.specs.declared.check.Check.the-variants.{Passed}
 use Rattle.quantile.specs.Call.{sureQuery}
-use Rattle.quantile.specs.Checked.{checkAnswer}
-use Rattle.quantile.proofs.Joined.{Told, told-passed, by-row, by-checks}
+use Rattle.quantile.proofs.Joined.{Told, told-passed, joined}
 use Rattle.quantile.proofs.sure.Statement.{statement}
 use Rattle.quantile.proofs.sure.Tie as tie
 
-tells : (c : tie.After-checked) {check : Check} → c .checked .result ≡ check
-    → let a = c .before .args in Told (a .low .now) (a .high .now) (a .level) check
-tells c e = let level = c .before .fits .level in record { is = ap checkAnswer (sym e) ∙ simp toZ-ofZ at (c .checked .ensures) }
-
-passes : (c : tie.After-enum-told) → let a = c .before .before .before .args in Told (a .low .now) (a .high .now) (a .level) Passed
-passes c = tells (c .before .before) (c .enum-told .given .1)
+tells : (c : tie.After-checked) → let a = c .before .args in Told (a .low .now) (a .high .now) (a .level) (c .checked .result)
+tells c = let level = c .before .fits .level in record { is = simp toZ-ofZ at (c .checked .ensures) }
 
 returns : tie.Need-returns
 unfolding sureQuery
 returns c =
-    let start = c .before .before .before .before in
-    let level = start .fits .level in
-    simp toZ-ofZ at (c .total-of .ensures) ∙ by-row (start .args .low .now) 34 (passes (c .before))
-
-returns-2 : tie.Need-returns-2
-unfolding sureQuery
-returns-2 c =
-    let found = c .before .before .before in
-    by-checks (found .before .args .low .now) 34 (tells found (c .before .reason .given .1))
+    let level = c .before .before .fits .level in
+    simp toZ-ofZ at (c .query-by .ensures) ∙ joined (c .before .before .args .low .now) 34 (tells (c .before))
 
 pub sure-spec : {M : Type 1} → statement M
-sure-spec =
-    tie.close
-    (tie.spec
-    (λ c κs. search needs)
-    (λ c. search needs)
-    (λ c κs. told-passed (passes c) .low-summable)
-    (λ c. search needs)
-    returns
-    returns-2)
+sure-spec = tie.close (tie.spec (λ c κs. search needs) (λ c κs passes. told-passed (tells c) passes .low-summable) returns)
