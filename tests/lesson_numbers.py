@@ -125,7 +125,8 @@ def short_table():
     low, high = sums_to(last, "poisson.txt")
     neither = sure_and_possible(LEVEL_99, "poisson.txt", f"LAST {last}") == ["refused by 34", "refused by 35"]
     yield f"Write `LAST {last}` in `poisson.txt`, and ask for the level {LEVEL_99 / UNIT}."
-    yield where(neither, "Possible is refused too, by 35, where the sum of highs reaches the level at no total of the table (question 1.5).")
+    yield where(neither, "Possible is refused too, by 35, where the sum of highs reaches the level at no total of the table "
+                         "(question 1.5).")
     yield where(neither, f"The lows of the whole table add up to {low}, so sure is refused by 34. The highs add up to {high}, so possible "
                          f"is refused by 35. That says more: whatever the chances are between low and high, their sum reaches the level "
                          f"at no total of this table.")

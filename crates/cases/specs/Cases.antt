@@ -1,6 +1,6 @@
 -- "Cases on each limit", P1 to P12, as rows of one table, and more of the paper's calls. The numbers are the paper's, with the bounds of
--- P2, P4 and P6 as Wish 4 has them; what is not printed follows from the rules, and calculator/check_paper_cases.py works every row out
--- apart from these definitions.
+-- P2, P4 and P6 as Wish 4 has them, and P9 and P10 asked of the two calls of Wish 5; what is not printed follows from the rules, and
+-- calculator/check_paper_cases.py works every row out apart from these definitions.
 use mathlib.Core.Path.{_≡_}
 use mathlib.Core.Bool.{Bool, _&&_}
 use mathlib.Core.List.{List, [], _∷_, _++_, map, List·Memᴰ}
