@@ -35,10 +35,11 @@ unfolding firstOf
 by-first P true number place rest this others = this refl
 by-first P false number place rest this others = others refl
 
--- no condition of the list has this number; each has one that is not the acceptance's 0
+-- no condition of the list has this number
 abbrev pub lacks : ℕ → List Condition → Bool
 lacks number = every (λ c. not (eqb (c .number) number))
 
+-- none has the acceptance's 0
 abbrev pub allNumbered : List Condition → Bool
 allNumbered = lacks 0
 

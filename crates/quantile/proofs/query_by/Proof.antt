@@ -1,6 +1,6 @@
 -- By the two cases of what the checks tell.
 use borrow.Author.Needs.{needs}
-use mathlib.Core.Path.{_≡_, sym, ap, _∙_}
+use mathlib.Core.Path.{sym, ap, _∙_}
 use mir.Facts.{toZ-ofZ}
 use Rattle.quantile.specs.declared.check.Check.{Check}
 use Rattle.quantile.specs.Call.{Found, numberOf}
