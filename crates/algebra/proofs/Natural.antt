@@ -1,4 +1,6 @@
 -- ℕ of the kit as a commutative semiring, and bounds on its sums.
+use mathlib.Core.Path.{_≡_, ap}
+use mathlib.Core.Logic.{_⊎_, inl, inr}
 use Prim.Native.Nat.{ℕ, zero, suc, _+_, _*_, _≤_, _<_}
 use native.Mathlib.Nat as NL
 use native.Mathlib.Omega.{arith}
@@ -31,3 +33,14 @@ pub sumℕ-most : (n m : ℕ) (f : ℕ → ℕ) → ((i : ℕ) → i < n → f i
 unfolding accumulate
 sumℕ-most zero m f h = omega arith
 sumℕ-most (suc n) m f h = omega (arith, sumℕ-most n m f (λ i l. h i (omega arith)), h n (omega arith))
+
+-- the first n terms of m
+pub sumℕ-longer : (n m : ℕ) (f : ℕ → ℕ) → n ≤ m → sumℕ n f ≤ sumℕ m f
+unfolding accumulate
+sumℕ-longer zero m f h = omega arith
+sumℕ-longer (suc n) zero f h = absurd (NL.not-suc-le-zero h)
+sumℕ-longer (suc n) (suc m) f h = by (sumℕ-longer (suc n) m f) (NL.eq-or-lt-of-le h)
+  where
+    by : (suc n ≤ m → sumℕ (suc n) f ≤ sumℕ m f) → (suc n ≡ suc m) ⊎ (suc n < suc m) → sumℕ (suc n) f ≤ sumℕ (suc m) f
+    by fewer (inl e) = NL.le-of-eq (ap (λ (k : ℕ). sumℕ k f) e)
+    by fewer (inr l) = omega (arith, fewer (omega arith))

@@ -8,8 +8,8 @@ use native.Mathlib.Numerals.{add-one}
 use native.Mathlib.Omega.{arith}
 use lib.ListN.{length, set, getD, drop, length-append, length-drop, List·getD-append}
 use lib.Seq.{getD-at, take-all, drop-cons, set-append-seam}
-use Rattle.algebra.specs.Slice.{listed, DropNext, DropSet, PartToEnd, ListedLength, ListedAt}
-use Rattle.algebra.specs.Slice.{WrittenLength, WrittenNext}
+use Rattle.algebra.specs.Slice.{listed, written, DropNext, DropSet, PartToEnd, ListedLength, ListedAt}
+use Rattle.algebra.specs.Slice.{WrittenLength, WrittenNext, ListedKept, ListedNext}
 
 module _ {A : Type 0} where
   pub drop-next : DropNext A
@@ -49,3 +49,13 @@ module _ {A : Type 0} where
     where
       one-more : length (front ++ (v ∷ [])) ≡ suc (length front)
       one-more = simp length-append (omega arith)
+
+  pub listed-kept : ListedKept A
+  listed-kept f n row h = written-length (listed f n) row (rw (listed-length f n) h)
+
+  pub listed-next : ListedNext A
+  unfolding listed
+  listed-next f n row h =
+      ap (λ (k : ℕ). set (written (listed f n) row) k (f n)) (sym (listed-length f n))
+      ∙ written-next (listed f n) row (f n) (rw (listed-length f n) h)
+      ∙ ap (λ (k : ℕ). written (listed f k) row) (sym (add-one n))

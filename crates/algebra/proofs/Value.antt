@@ -120,7 +120,7 @@ value-overSuc x n = times-nat (suc n) (overSuc x n) x
     (record { across = over-product Z (pos (suc n)) (x .upper) (pos (x .lower)) })
 
 -- ---- sums
-value-accumulate : (n : ℕ) (g : ℕ → Fraction) → value (accumulate (whole (pos 0)) _⊕_ n g) ≡ sum ℚ n (λ i. value (g i))
+pub value-accumulate : (n : ℕ) (g : ℕ → Fraction) → value (accumulate (whole (pos 0)) _⊕_ n g) ≡ sum ℚ n (λ i. value (g i))
 value-accumulate n g = sum-related (λ (x : Fraction) (v : A). value x ≡ v) (whole (pos 0)) _⊕_ 𝟘 _⊹_ value-zero
     (λ x y u v p q. value-plus x y ∙ ap₂ _⊹_ p q) n g (λ i. value (g i)) (λ i l. refl)
 

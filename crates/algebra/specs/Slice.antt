@@ -39,3 +39,11 @@ module _ (A : Type 0) where
   abbrev pub WrittenNext : Type 0
   WrittenNext = (front row : List A) (v : A) → length front < length row
       → set (written front row) (length front) v ≡ written (front ++ (v ∷ [])) row
+
+  -- f 0, .., f (n - 1) over the first places of a row: its length stays, and f n comes to the next place
+  abbrev pub ListedKept : Type 0
+  ListedKept = (f : ℕ → A) (n : ℕ) (row : List A) → n ≤ length row → length (written (listed f n) row) ≡ length row
+
+  abbrev pub ListedNext : Type 0
+  ListedNext = (f : ℕ → A) (n : ℕ) (row : List A) → n < length row
+      → set (written (listed f n) row) n (f n) ≡ written (listed f (n + 1)) row

@@ -9,7 +9,7 @@ use native.Mathlib.Numerals.{add-one}
 use borrow.Author.Count.{below-none, below-more}
 use borrow.Author.Tests.{eq-eqb, ne-eqb}
 use lib.Dec.{T, eqb}
-use lib.ListN.{length, getD}
+use lib.ListN.{length, getD, drop}
 use Rattle.algebra.specs.Smallest.{FailBelow}
 use Rattle.algebra.specs.Table.{every}
 use Rattle.algebra.proofs.Table.{and-left, and-right}
@@ -86,6 +86,13 @@ unfolding firstOf
 first-accepts [] fails = refl
 first-accepts (c ∷ cs) fails = rw (fails 0 (omega arith)) (first-accepts cs (λ k l. fails (suc k) (omega arith)))
 
+-- where the first n do not hold, the others count
+first-left : (cs : List Condition) (n : ℕ) → FailBelow (holdsAt cs) n → firstOf cs ≡ firstOf (drop n cs)
+unfolding firstOf
+first-left cs zero fails = refl
+first-left [] (suc n) fails = refl
+first-left (c ∷ cs) (suc n) fails = rw (fails 0 (omega arith)) (first-left cs n (λ k l. fails (suc k) (omega arith)))
+
 -- condition n is due: none before it holds, and the test t tells whether it does
 pub record Due (cs : List Condition) (n : ℕ) (t : Bool) : Type 0 where
   pub earlier : FailBelow (holdsAt cs) n
@@ -104,6 +111,10 @@ due-refuses due holds = first-refuses _ _ (due .earlier) (sym (due .test) ∙ ho
 -- the last condition of the list
 pub due-accepts : {cs : List Condition} {n : ℕ} {t : Bool} → length cs ≡ suc n → Due cs n t → t ≡ false → firstOf cs ≡ accepted
 due-accepts last due fails = first-accepts _ (rw last (due-next due fails refl .earlier))
+
+-- conditions follow that are looked at in another way
+pub due-leaves : {cs : List Condition} {n : ℕ} {t : Bool} → Due cs n t → t ≡ false → firstOf cs ≡ firstOf (drop (suc n) cs)
+due-leaves due fails = first-left _ _ (due-next due fails refl .earlier)
 
 -- ---- after an acceptance
 -- the condition of a list that refuses by a number; where there is none, one that does not hold
