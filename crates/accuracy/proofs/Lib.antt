@@ -3,6 +3,8 @@ pub mod Enclosure
 pub mod Gap
 pub mod Bounds
 pub mod Accuracy
+pub mod Rows
 pub mod Query
+pub mod Layer
 pub mod GivenStart
 pub mod GivenLaw

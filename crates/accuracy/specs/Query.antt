@@ -1,26 +1,15 @@
 -- What the level queries on the rows of an accepted job say of the job's exact amounts.
 use mathlib.Core.Path.{_≡_}
 use mathlib.Core.List.{List, _∷_}
-use Prim.Native.Nat.{ℕ, _+_}
-use lib.IntN.{ℤ, pos}
-use lib.ListN.{take}
-use Rattle.algebra.specs.Fraction.{Fraction, whole, _≼_}
+use Prim.Native.Nat.{ℕ}
+use lib.IntN.{ℤ}
 use Rattle.model.specs.declared.Job.{Job}
 use Rattle.model.specs.Answer.{condition, firstOf}
-use Rattle.exact.specs.JobAmount.{Divisible, amount}
 use Rattle.rows.specs.Layout.{Lent}
-use Rattle.compound.specs.Call.{curveLent}
-use Rattle.intervals.specs.Amounts.{Enclose}
 use Rattle.quantile.specs.Call.{wrongLevel, reachCheck, sureQuery, possibleQuery}
 use Rattle.quantile.specs.Enclosed.{QueriesTrue}
 use Rattle.accuracy.specs.Accuracy.{Accepted}
-
--- the first X+1 places of the lent rows on return
-abbrev pub lows : Job → List ℕ → Lent → List ℤ
-lows job weights lent = take (job .last + 1) (curveLent job weights lent .low)
-
-abbrev pub highs : Job → List ℕ → Lent → List ℤ
-highs job weights lent = take (job .last + 1) (curveLent job weights lent .high)
+use Rattle.accuracy.specs.Rows.{lows, highs, OfEveryStart}
 
 -- of a query's four conditions only 32, its level, and its own, 34 or 35, a level that their sums do not reach, can hold on them
 abbrev pub RowsNotRefused : Type 0
@@ -29,16 +18,6 @@ RowsNotRefused = (job : Job) (weights : List ℕ) (lent : Lent) → Accepted job
     let high = highs job weights lent in
     (sureQuery low high level .answer ≡ firstOf (condition (wrongLevel level) 32 0 ∷ reachCheck low 34 level))
     × (possibleQuery low high level .answer ≡ firstOf (condition (wrongLevel level) 32 0 ∷ reachCheck high 35 level))
-
--- what is said of them and of the exact amounts, for every starting chance from s to t, whole or fraction, ends included
-abbrev pub OfEveryStart : (List ℤ → List ℤ → (ℕ → Fraction) → Type 0) → Type 0
-OfEveryStart Said = (job : Job) (weights : List ℕ) (lent : Lent) → Accepted job weights lent
-    → (h : Divisible job weights) (p : Fraction) → whole (pos (job .start .low)) ≼ p → p ≼ whole (pos (job .start .high))
-    → Said (lows job weights lent) (highs job weights lent) (amount job weights h p)
-
--- the exact amounts lie from low to high, at each total of the rows
-abbrev pub RowsEnclose : Type 0
-RowsEnclose = OfEveryStart Enclose
 
 -- what the queries tell is true of the exact amounts: where sure is accepted these have a quantile, and it lies from possible to sure;
 -- where possible alone is, a quantile of theirs is at least possible; after 35 no sum of theirs, from 0 to a total up to X, reaches the

@@ -61,20 +61,6 @@ fn show_answer(answer: CurveAnswer) {
     }
 }
 
-fn show_place(total: usize, held: i64) {
-    if held != MARK {
-        show::place(total);
-        show::signed(held);
-    }
-}
-
-fn show_row(row: &[i64]) {
-    show::text(b";");
-    for total in 0..row.len() {
-        show_place(total, row[total]);
-    }
-}
-
 // Makes the call with the fronts of the rows, as long as the record says.
 fn call(
     job: Job,
@@ -114,9 +100,9 @@ pub fn run() {
         &mut bound,
         &mut work,
     );
-    show_row(&low);
-    show_row(&high);
-    show_row(&bound);
-    show_row(&work);
+    show::row(&low, MARK);
+    show::row(&high, MARK);
+    show::row(&bound, MARK);
+    show::row(&work, MARK);
     show::text(b"\n");
 }

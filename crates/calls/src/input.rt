@@ -50,6 +50,13 @@ pub fn numbers(row: &mut [u64]) -> usize
     count
 }
 
+// The same, without an answer.
+pub fn sizes(row: &mut [usize]) {
+    for i in 0..at_most(row.len()) {
+        row[i] = number() as usize;
+    }
+}
+
 pub fn signed_numbers(row: &mut [i64]) -> usize
     ensures { λ r. ⌜ r ≤ length (now (row .exit)) ⌝ }
 {

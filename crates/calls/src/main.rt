@@ -4,6 +4,7 @@
 mod curve;
 mod input;
 mod laws;
+mod layers;
 mod level;
 mod reader;
 mod show;
@@ -19,6 +20,7 @@ fn next_call() -> bool {
         5 => starts::run_trials(),
         6 => laws::run_panjer_willmot(),
         7 => laws::run_hesselager(),
+        8 => layers::run(),
         _ => return false,
     }
     true

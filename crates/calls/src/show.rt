@@ -56,3 +56,18 @@ pub fn place(at: usize) {
     next(at as u64);
     text(b"=");
 }
+
+fn held(at: usize, value: i64, mark: i64) {
+    if value != mark {
+        place(at);
+        signed(value);
+    }
+}
+
+// The places of a row that no longer hold the mark that they held before the call.
+pub fn row(values: &[i64], mark: i64) {
+    text(b";");
+    for i in 0..values.len() {
+        held(i, values[i], mark);
+    }
+}

@@ -3,6 +3,7 @@
 
 pub mod curve;
 pub mod laws;
+pub mod layers;
 pub mod level;
 pub mod reader;
 pub mod starts;

@@ -33,7 +33,7 @@ use Rattle.layer.specs.declared.LayerList.{LayerList}
 use Rattle.layer.specs.Layer.{saving, payment, costBy}
 use Rattle.layer.specs.Call.{attachment, limit, costsBy, LayerCosts, tellsCosts, layerCosts}
 use Rattle.layer.specs.Enclosed.{amountAt, sumBelow, SumsToUnit, paid, Amounts, Accepted, lowCost, highCost}
-use Rattle.layer.specs.Enclosed.{EnclosesLayer, LayerInOrder, LayerSmall, Continues, withRest, Continued, LayerEnclosed}
+use Rattle.layer.specs.Enclosed.{EnclosesLayer, LayerInOrder, LayerSmall, Continues, withRest, AlwaysContinues, EnclosesContinued}
 use Rattle.layer.proofs.Saving.{saving-none, paid-saved}
 use Rattle.layer.proofs.Sizes.{cost-small}
 use Rattle.layer.proofs.Passed.{CallPassed, call-passed}
@@ -244,15 +244,15 @@ module _ (amount : ℕ → Fraction) (d : ℕ) where
       comes-off : (s u : A) → s ⊹ (u ⊹ neg 𝟙 · s) ≡ u
       comes-off s u = solve (order .ring) (s ∷ u ∷ []) (var 0 :+ (var 1 :+ :- one :* var 0)) (var 1) tt
 
-pub continued : Continued
-continued amount d = record {
+pub always-continues : AlwaysContinues
+always-continues amount d = record {
   enough = omega (arith, one-more amount d);
   sums-to = sums-to amount d;
   begins = λ x l. eq-of-value (ap value (at-first amount d x l));
 }
 
-pub layer-enclosed : LayerEnclosed
-layer-enclosed low high amount inside list answerLow answerHigh ok i l g continues =
+pub encloses-always-continues : EnclosesContinued
+encloses-always-continues low high amount inside list answerLow answerHigh ok i l g continues =
     let below = within low high list answerLow answerHigh ok i l in
     encloses-layer low high list answerLow answerHigh ok i l g (record {
       enough = continues .enough;

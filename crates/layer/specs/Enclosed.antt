@@ -88,14 +88,14 @@ abbrev pub withRest : (d : ℕ) → (ℕ → Fraction) → List Fraction
 withRest d amount = listed amount d ++ ((whole (pos unit) ⊕ whole (negℤ (pos 1)) ⊗ sumBelow d amount) ∷ [])
 
 -- so there always is such a list
-abbrev pub Continued : Type 0
-Continued = (amount : ℕ → Fraction) (d : ℕ) → Continues amount d (withRest d amount)
+abbrev pub AlwaysContinues : Type 0
+AlwaysContinues = (amount : ℕ → Fraction) (d : ℕ) → Continues amount d (withRest d amount)
 
 -- and of amounts that the rows enclose, what a layer pays on average lies from low to high, however they go on
-abbrev pub PaidEnclosed : (low high : List ℤ) → (ℕ → Fraction) → Type 0
-PaidEnclosed low high amount = (list : LayerList) (answerLow answerHigh : List ℤ) → Accepted low high list answerLow answerHigh
+abbrev pub EnclosesPaid : (low high : List ℤ) → (ℕ → Fraction) → Type 0
+EnclosesPaid low high amount = (list : LayerList) (answerLow answerHigh : List ℤ) → Accepted low high list answerLow answerHigh
     → (i : ℕ) → i < list .count → (g : List Fraction) → Continues amount (limit list i) g
     → PaidBetween low high list answerLow answerHigh i g
 
-abbrev pub LayerEnclosed : Type 0
-LayerEnclosed = (low high : List ℤ) (amount : ℕ → Fraction) → Enclose low high amount → PaidEnclosed low high amount
+abbrev pub EnclosesContinued : Type 0
+EnclosesContinued = (low high : List ℤ) (amount : ℕ → Fraction) → Enclose low high amount → EnclosesPaid low high amount

@@ -2,17 +2,17 @@
 use borrow.Author.Needs.{needs}
 use Prim.Native.Nat.{_-_, _≤_}
 use lib.ListN.{length}
-use Rattle.calls.proofs.curve.show_row.Statement.{statement}
-use Rattle.calls.proofs.curve.show_row.Tie as tie
+use Rattle.calls.proofs.show.row.Statement.{statement}
+use Rattle.calls.proofs.show.row.Tie as tie
 
 abbrev Inv-loop : tie.InvT-loop
-Inv-loop row total₀ total-end total = total ≤ length row
+Inv-loop values mark i₀ i-end i = i ≤ length values
 
 abbrev μ-loop : tie.MeasureT-loop
-μ-loop row total₀ total-end total = length row - total
+μ-loop values mark i₀ i-end i = length values - i
 
-pub show-row-spec : {M : Type 1} → statement M
-show-row-spec =
+pub row-spec : {M : Type 1} → statement M
+row-spec =
     tie.close
     (tie.spec
     Inv-loop
