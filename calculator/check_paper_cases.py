@@ -104,7 +104,7 @@ def on_program(sheet):
 
 
 # each with the number of rows that there are at least
-KINDS = {"curve": (on_curve, 17), "reader": (on_reader, 8), "level": (on_level, 14), "layers": (on_layers, 0),
+KINDS = {"curve": (on_curve, 17), "reader": (on_reader, 8), "level": (on_level, 14), "layers": (on_layers, 13),
          "mean": (on_mean, 7), "trials": (on_trials, 10), "panjerWillmot": (on_panjer_willmot, 9), "hesselager": (on_hesselager, 7),
          "program": (on_program, 5)}
 

@@ -24,6 +24,8 @@ use Rattle.rows.specs.Layout.{Lent, lentRows}
 use Rattle.rows.specs.Faults.{firstFault, rangeFault}
 use Rattle.compound.specs.Call.{curveAnswer, rowAfter, curveLent}
 use Rattle.quantile.specs.Call.{Found, quantileOf, sureQuery, possibleQuery}
+use Rattle.layer.specs.Layer.{saving, costBy}
+use Rattle.layer.specs.Call.{LayerCosts, tellsCosts, layerChecks, layerCosts}
 use Rattle.text.specs.Bytes.{ascii}
 use Rattle.text.specs.Lines.{before, after, has, afterLines, longer, words, spaced}
 use Rattle.text.specs.Numbers.{valueFrom, number, digitsWithin, decimal}
@@ -35,11 +37,11 @@ use Rattle.sheet.specs.Call.{Told, told, rowOnReturn}
 use Rattle.fault.specs.declared.Part.{Part}
 use Rattle.fault.specs.Call.{firstNoNumber, faultyWord, partOf, firstPart, faultyPart}
 use Rattle.report.specs.Report.{curveText, reportText}
-use Rattle.cases.specs.Cases.{Case, curve, reader, level, mean, trials, panjerWillmot, hesselager, program, Holds, cases}
+use Rattle.cases.specs.Cases.{Case, curve, reader, level, layers, mean, trials, panjerWillmot, hesselager, program, Holds, cases}
 use Rattle.cases.specs.Cases.{CasesHold, test}
 use Rattle.cases.specs.Cases.{numbers, sameAnswer, sameRow, rows, sameLent, wholeNumbers, terms, sameBytes, sameTold}
 use Rattle.cases.specs.Cases.{partNumbers, samePart, foundNumbers, sameFound, endNumbers, sameStarted}
-use Rattle.cases.specs.Cases.{madeNumbers, madeTerms, sameMade}
+use Rattle.cases.specs.Cases.{costRows, sameCosts, madeNumbers, madeTerms, sameMade}
 
 same-answer : Equates Answer sameAnswer
 same-answer x y t = ap (λ l. refused (getD l 0 0) (getD l 1 0)) (same-list ℕ eqb eqb→eq (numbers x) (numbers y) t)
@@ -88,6 +90,22 @@ same-part x y t = ap (λ l. partOf (getD l 0 0) (getD l 1 0)) (same-bytes (partN
 same-found : Equates Found sameFound
 same-found x y t =
     ap (λ l. record { answer = refused (getD l 0 0) (getD l 1 0); total = getD l 2 0 }) (same-bytes (foundNumbers x) (foundNumbers y) t)
+
+-- layer costs, from the lists that are compared
+costsBy : Answer → List (List ℤ) → LayerCosts
+costsBy answer rows = tellsCosts answer (getD rows 0 []) (getD rows 1 [])
+
+same-costs : Equates LayerCosts sameCosts
+unfolding costsBy
+same-costs x y t = λ i. costsBy
+    (same-answer (x .answer) (y .answer) (and-left answered returned t) i)
+    (same-list (List ℤ) sameRow same-row (costRows x) (costRows y) (and-right answered returned t) i)
+  where
+    answered : Bool
+    answered = sameAnswer (x .answer) (y .answer)
+
+    returned : Bool
+    returned = sameList sameRow (costRows x) (costRows y)
 
 -- an answer and a start, from the lists that are compared
 startedBy : Answer → List ℤ → Started
@@ -166,6 +184,7 @@ sound (level low high L sure possible) t = (
 
     possibly : Bool
     possibly = sameFound (possibleQuery low high L) possible
+sound (layers low high list answerLow answerHigh says) t = same-costs (layerCosts low high list answerLow answerHigh) says t
 sound (mean r s answer) t = same-started (startOfMean r s) answer t
 sound (trials r s N answer) t = same-started (startOfTrials r s N) answer t
 sound (panjerWillmot α₀ α₁ β₀ β₁ answer) t = same-made (lawOfPanjerWillmot α₀ α₁ β₀ β₁) answer t
@@ -179,6 +198,7 @@ unfolding curveAnswer curveLent rowAfter rangeFault firstFault curveRows history
     reading lawLine termLines startLine lastLine severityLine weightLines line allNumbers firstNoNumber firstPart
     number valueFrom words longer afterLines before after has
     sureQuery possibleQuery quantileOf
+    layerCosts layerChecks costBy saving
     startOfMean startOfTrials ofMean ofTrials series term repeated times
     lawOfLine
     reportText curveText totalLines lineText spaced decimal digitsWithin

@@ -20,6 +20,8 @@ use Rattle.published.specs.Call.{Made, lawOfPanjerWillmot, lawOfHesselager}
 use Rattle.rows.specs.Layout.{Lent, lentRows}
 use Rattle.compound.specs.Call.{curveAnswer, curveLent}
 use Rattle.quantile.specs.Call.{Found, sureQuery, possibleQuery}
+use Rattle.layer.specs.declared.LayerList.{LayerList}
+use Rattle.layer.specs.Call.{LayerCosts, layerList, layerCosts}
 use Rattle.text.specs.Bytes.{ascii}
 use Rattle.grammar.specs.Reading.{reading}
 use Rattle.sheet.specs.Call.{Told, told, rowOnReturn}
@@ -35,6 +37,8 @@ pub data Case : Type 0 where
   reader : List ℕ → List ℕ → Told → List ℕ → List ℕ → Part → Case
   -- the low row, the high row and the level, what sure tells and what possible tells
   level : List ℤ → List ℤ → ℤ → Found → Found → Case
+  -- the low row, the high row, the list of layers, the two answer rows at entry, and the answer with these rows on return
+  layers : List ℤ → List ℤ → LayerList → List ℤ → List ℤ → LayerCosts → Case
   -- the mean's upper and lower number, and the answer with its start
   mean : ℕ → ℕ → Started → Case
   -- the chance's upper and lower number and the number of trials, likewise
@@ -53,6 +57,7 @@ Holds (reader s row says after word part) =
     (told (reading (length row) s) ≡ says) × (rowOnReturn (reading (length row) s) row ≡ after)
     × (faultyWord (length row) s ≡ word) × (faultyPart (length row) s ≡ part)
 Holds (level low high L sure possible) = (sureQuery low high L ≡ sure) × (possibleQuery low high L ≡ possible)
+Holds (layers low high list answerLow answerHigh says) = layerCosts low high list answerLow answerHigh ≡ says
 Holds (mean r s answer) = startOfMean r s ≡ answer
 Holds (trials r s N answer) = startOfTrials r s N ≡ answer
 Holds (panjerWillmot α₀ α₁ β₀ β₁ answer) = lawOfPanjerWillmot α₀ α₁ β₀ β₁ ≡ answer
@@ -121,6 +126,22 @@ notFound number place = record { answer = refused number place; total = 0 }
 -- "Checks 31 to 33 stay in both"
 abbrev bothRefuse : (low high : List ℤ) (L : ℤ) (number place : ℕ) → Case
 bothRefuse low high L number place = level low high L (notFound number place) (notFound number place)
+
+-- ---- layer costs
+-- as many layers as the lists have members; behind them the arrays have a layer that would be refused, from 9 to 2
+abbrev between : (attachments limits : List ℕ) → LayerList
+between attachments limits = layerList (length attachments) (attachments ++ replicate (64 - length attachments) 9)
+    (limits ++ replicate (64 - length limits) 2)
+
+-- the costs in front of what the answer rows held behind them
+abbrev priced : (lows highs restLow restHigh : List ℤ) → LayerCosts
+priced lows highs restLow restHigh = record { answer = accepted; low = lows ++ restLow; high = highs ++ restHigh }
+
+-- a refusal writes nothing
+abbrev notPriced : (low high : List ℤ) (list : LayerList) (placesLow placesHigh number place : ℕ) → Case
+notPriced low high list placesLow placesHigh number place =
+    layers low high list (marks placesLow) (marks placesHigh)
+    (record { answer = refused number place; low = marks placesLow; high = marks placesHigh })
 
 -- ---- starts
 abbrev started : (low high : ℕ) → Started
@@ -278,6 +299,29 @@ cases =
     (notFound 34 0) (found 0)
     -- a sum that reaches the level and falls again
     ∷ level (pos 2 ∷ negℤ (pos 5) ∷ []) (pos 2 ∷ negℤ (pos 5) ∷ []) (pos 2) (found 0) (found 0)
+    -- layers on the rows of P1: from 0 to 4 the savings are 4, 3, 2 and 1, from 1 to 3 they are 2, 2, 1 and 0, from 3 to 4 they are 1
+    ∷ layers lowP1 highP1 (between (0 ∷ 1 ∷ 3 ∷ []) (4 ∷ 3 ∷ 4 ∷ [])) (marks 5) (marks 3)
+    (priced (map pos (1417179749 ∷ 666437022 ∷ 118622169 ∷ [])) (map pos (1417179761 ∷ 666437028 ∷ 118622174 ∷ [])) (marks 2) [])
+    -- the largest numbers: from 0 to 501 the savings come to 125751
+    ∷ layers (replicate 501 (negℤ (pos 2000000000))) (replicate 501 (pos 2000000000)) (between (0 ∷ []) (501 ∷ [])) (marks 1) (marks 2)
+    (priced (negℤ (pos 251001000000000) ∷ []) (pos 252003000000000 ∷ []) [] (marks 1))
+    -- 64 layers, and "longer than 64"
+    ∷ layers (pos 5 ∷ []) (pos 7 ∷ []) (between (replicate 64 0) (replicate 64 1)) (marks 64) (marks 65)
+    (priced (replicate 64 (pos 999999993)) (replicate 64 (pos 999999995)) [] (marks 1))
+    ∷ notPriced (pos 5 ∷ []) (pos 7 ∷ []) (layerList 65 (replicate 64 0) (replicate 64 1)) 65 65 61 0
+    -- "31 and 33 come first", before "a list that is empty"
+    ∷ notPriced [] [] (between [] []) 1 1 31 0
+    ∷ notPriced (pos 0 ∷ pos 1 ∷ []) (pos 0 ∷ pos 0 ∷ []) (between [] []) 1 1 33 1
+    ∷ notPriced lowP1 highP1 (between [] []) 1 1 61 0
+    -- "longer than a lent row for the answers", before "a c not below d"
+    ∷ notPriced lowP1 highP1 (between (0 ∷ 2 ∷ []) (2 ∷ 2 ∷ [])) 1 2 61 0
+    ∷ notPriced lowP1 highP1 (between (0 ∷ 2 ∷ []) (2 ∷ 2 ∷ [])) 2 1 61 0
+    -- "with 62 a c not below d", before "a d above the rows' length" of the same layer
+    ∷ notPriced lowP1 highP1 (between (0 ∷ 2 ∷ []) (2 ∷ 2 ∷ [])) 2 2 62 1
+    ∷ notPriced lowP1 highP1 (between (6 ∷ []) (5 ∷ [])) 1 1 62 0
+    -- "layer by layer from 0": the 63 of layer 0 comes before the 62 of layer 1
+    ∷ notPriced lowP1 highP1 (between (0 ∷ 2 ∷ []) (5 ∷ 2 ∷ [])) 2 2 63 0
+    ∷ notPriced lowP1 highP1 (between (0 ∷ 2 ∷ []) (4 ∷ 5 ∷ [])) 2 2 63 1
     -- P1's law is that of mean 1, and P2's that of two trials of chance 1/2
     ∷ mean 1 1 (started 367879441 367879442)
     ∷ trials 1 2 2 (started 250000000 250000000)
@@ -379,6 +423,13 @@ endNumbers x = x .ends .low ∷ x .ends .high ∷ []
 abbrev pub sameStarted : Started → Started → Bool
 sameStarted x y = sameAnswer (x .answer) (y .answer) && sameRow (endNumbers x) (endNumbers y)
 
+-- layer costs: the rows, as lists
+abbrev pub costRows : LayerCosts → List (List ℤ)
+costRows x = x .low ∷ x .high ∷ []
+
+abbrev pub sameCosts : LayerCosts → LayerCosts → Bool
+sameCosts x y = sameAnswer (x .answer) (y .answer) && sameList sameRow (costRows x) (costRows y)
+
 -- a law made, as lists
 abbrev pub madeNumbers : Made → List ℕ
 madeNumbers x = x .answer .number ∷ x .answer .place ∷ x .law .order ∷ x .law .divisor ∷ []
@@ -397,6 +448,7 @@ test (reader s row says after word part) =
     && (sameBytes (rowOnReturn (reading (length row) s) row) after
     && (sameBytes (faultyWord (length row) s) word && samePart (faultyPart (length row) s) part))
 test (level low high L sure possible) = sameFound (sureQuery low high L) sure && sameFound (possibleQuery low high L) possible
+test (layers low high list answerLow answerHigh says) = sameCosts (layerCosts low high list answerLow answerHigh) says
 test (mean r s answer) = sameStarted (startOfMean r s) answer
 test (trials r s N answer) = sameStarted (startOfTrials r s N) answer
 test (panjerWillmot α₀ α₁ β₀ β₁ answer) = sameMade (lawOfPanjerWillmot α₀ α₁ β₀ β₁) answer
