@@ -33,7 +33,7 @@ use Rattle.layer.specs.declared.LayerList.{LayerList}
 use Rattle.layer.specs.Layer.{saving, payment, costBy}
 use Rattle.layer.specs.Call.{attachment, limit, costsBy, LayerCosts, tellsCosts, layerCosts}
 use Rattle.layer.specs.Enclosed.{amountAt, sumBelow, SumsToUnit, paid, Amounts, Accepted, lowCost, highCost}
-use Rattle.layer.specs.Enclosed.{EnclosesLayer, LayerInOrder, LayerSmall, Continues, withRest, AlwaysContinues, EnclosesContinued}
+use Rattle.layer.specs.Enclosed.{EnclosesLayer, LayerInOrder, LayerSmall, Continues, rest, withRest, AlwaysContinues, EnclosesContinued}
 use Rattle.layer.proofs.Saving.{saving-none, paid-saved}
 use Rattle.layer.proofs.Sizes.{cost-small}
 use Rattle.layer.proofs.Passed.{CallPassed, call-passed}
@@ -168,10 +168,10 @@ module _ (low high : List ℤ) (list : LayerList) (answerLow answerHigh : List �
         cost : ℕ → ℤ
         cost k = costBy row (attachment list k) (limit list k)
 
-    pub low-is : lowCost low high list answerLow answerHigh i ≡ costBy high (attachment list i) (limit list i)
+    low-is : lowCost low high list answerLow answerHigh i ≡ costBy high (attachment list i) (limit list i)
     low-is = ap (λ (k : LayerCosts). getD (k .low) i (pos 0)) (sym costs) ∙ at high answerLow
 
-    pub high-is : highCost low high list answerLow answerHigh i ≡ costBy low (attachment list i) (limit list i)
+    high-is : highCost low high list answerLow answerHigh i ≡ costBy low (attachment list i) (limit list i)
     high-is = ap (λ (k : LayerCosts). getD (k .high) i (pos 0)) (sym costs) ∙ at low answerHigh
 
     within : limit list i ≤ length low
@@ -206,9 +206,6 @@ module _ (amount : ℕ → Fraction) (d : ℕ) where
   abbrev g : List Fraction
   g = withRest d amount
 
-  abbrev rest : Fraction
-  rest = whole (pos unit) ⊕ whole (negℤ (pos 1)) ⊗ sumBelow d amount
-
   abbrev total : A
   total = sum ℚ d (λ x. value (amount x))
 
@@ -217,14 +214,14 @@ module _ (amount : ℕ → Fraction) (d : ℕ) where
 
   at-first : (x : ℕ) → x < d → amountAt g x ≡ amount x
   at-first x l =
-      List·getD-append (listed amount d) (rest ∷ []) (whole (pos 0)) x (rw (listed-length amount d) l)
+      List·getD-append (listed amount d) (rest d amount ∷ []) (whole (pos 0)) x (rw (listed-length amount d) l)
       ∙ listed-at amount d x (whole (pos 0)) l
 
-  at-last : amountAt g d ≡ rest
-  at-last = getD-at (listed amount d) rest [] (whole (pos 0)) d (listed-length amount d)
+  at-last : amountAt g d ≡ rest d amount
+  at-last = getD-at (listed amount d) (rest d amount) [] (whole (pos 0)) d (listed-length amount d)
 
   -- U less the sum
-  value-rest : value rest ≡ value (whole (pos unit)) ⊹ neg 𝟙 · total
+  value-rest : value (rest d amount) ≡ value (whole (pos unit)) ⊹ neg 𝟙 · total
   value-rest =
       value-plus (whole (pos unit)) (whole (negℤ (pos 1)) ⊗ sumBelow d amount)
       ∙ ap (λ (v : A). value (whole (pos unit)) ⊹ v)

@@ -1,6 +1,6 @@
 -- What the call returns, by the answer of its conditions: after a refusal the answer rows are as they were.
-use mathlib.Core.Path.{_≡_, refl, ap}
-use mathlib.Core.Bool.{false}
+use mathlib.Core.Path.{_≡_, refl, sym, _∙_, ap, ap₂}
+use mathlib.Core.Bool.{Bool, false, cond}
 use mathlib.Core.List.{List}
 use Prim.Native.Nat.{ℕ}
 use lib.IntN.{ℤ}
@@ -10,7 +10,7 @@ use Rattle.model.specs.Answer.{Answer, accepted, refused, isAccepted, firstOf}
 use Rattle.layer.specs.declared.LayerList.{LayerList}
 use Rattle.layer.specs.declared.Reason.{Reason}
 use Rattle.layer.specs.declared.Reason.the-variants.{Rows, Entry, Count, Attachment, Limit}
-use Rattle.layer.specs.Call.{numberOf, tellsCosts, costsBy, checks, answered, layerCosts}
+use Rattle.layer.specs.Call.{numberOf, tellsCosts, costsBy, checks, rowAfter, answered, layerCosts}
 
 -- no reason has the number of an acceptance
 not-accepted : (reason : Reason) (place : ℕ) → isAccepted (refused (numberOf reason) place) ≡ false
@@ -19,6 +19,10 @@ not-accepted Entry place = refl
 not-accepted Count place = refl
 not-accepted Attachment place = refl
 not-accepted Limit place = refl
+
+-- so after a refusal a row is as it was
+kept : (reason : Reason) (place : ℕ) (costs row : List ℤ) → rowAfter (refused (numberOf reason) place) costs row ≡ row
+kept reason place costs row = ap (λ (b : Bool). cond b (written costs row) row) (not-accepted reason place)
 
 module _ (low high : List ℤ) (list : LayerList) (answerLow answerHigh : List ℤ) where
   -- the answer of the call's conditions
@@ -32,7 +36,10 @@ module _ (low high : List ℤ) (list : LayerList) (answerLow answerHigh : List �
 
   pub refuses : (reason : Reason) (place : ℕ) → refused (numberOf reason) place ≡ answerOf
       → tellsCosts (refused (numberOf reason) place) answerLow answerHigh ≡ layerCosts low high list answerLow answerHigh
-  refuses reason place e = rw (not-accepted reason place) at (costs-are e)
+  refuses reason place e =
+      sym (ap₂ (tellsCosts (refused (numberOf reason) place))
+      (kept reason place (costsBy high list) answerLow) (kept reason place (costsBy low list) answerHigh))
+      ∙ costs-are e
 
   pub accepts : accepted ≡ answerOf
       → tellsCosts accepted (written (costsBy high list) answerLow) (written (costsBy low list) answerHigh)

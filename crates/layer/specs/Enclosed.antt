@@ -83,9 +83,13 @@ pub record Continues (amount : ℕ → Fraction) (d : ℕ) (g : List Fraction) :
   pub sums-to : SumsToUnit g
   pub begins : (x : ℕ) → x < d → amountAt g x ≈ amount x
 
--- one amount for all totals from d on, which pay the same: what is missing to U
+-- what the amounts below d leave of U
+abbrev pub rest : (d : ℕ) → (ℕ → Fraction) → Fraction
+rest d amount = whole (pos unit) ⊕ whole (negℤ (pos 1)) ⊗ sumBelow d amount
+
+-- one amount for all totals from d on, since a layer pays the same at each of them
 abbrev pub withRest : (d : ℕ) → (ℕ → Fraction) → List Fraction
-withRest d amount = listed amount d ++ ((whole (pos unit) ⊕ whole (negℤ (pos 1)) ⊗ sumBelow d amount) ∷ [])
+withRest d amount = listed amount d ++ (rest d amount ∷ [])
 
 -- so there always is such a list
 abbrev pub AlwaysContinues : Type 0
