@@ -55,8 +55,11 @@ def cases():
 
 def saving_rule():
     yield f"This uses that all chances add up to 1, which is U = {UNIT:,} units: then the average payment is (d - c) × U less"
+    yield "and how likely they are together is what the totals below d leave of 1."
     no_law = Fraction(rows("no_law.txt")[0][1]) / (1 + HALF)
-    yield where(no_law != UNIT, "The amounts of `no_law.txt` there do not add up to 1, and a price made from them would say nothing.")
+    yield where(no_law != UNIT,
+                "That all chances add up to 1 is known from the law and not from the table, just as in part 2 that no chance is below zero. "
+                "The amounts of `no_law.txt` there do not add up to 1, and a price made from them would say nothing.")
     low, high = columns()
     enclosed = all(less_saved(high, *layer) <= less_saved(WINDOWS, *layer) <= less_saved(low, *layer) for layer in ascending(2))
     yield where(enclosed, "The saving comes off, so **the high takes the lows and the low takes the highs**.")
@@ -89,6 +92,7 @@ def below_zero():
 
 
 def barns():
+    yield f"### The weight `{TYPED}`"
     read = job(BARNS)
     *small, large = (f"{weight} of size {size}" for size, weight in enumerate(read.weights, 1) if weight)
     yield (f"with {read.b[0]} claims a year on average, by a Poisson law. Its records have {sum(read.weights):,} claims: "
