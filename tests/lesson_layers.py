@@ -4,7 +4,7 @@ import re
 from fractions import Fraction
 from itertools import combinations
 
-from lesson import both_round_to, cost, cut, job, layers_asked, lines, rows
+from lesson import Law, both_round_to, cost, cut, job, layers_asked, lines, rows, sheet
 from lesson_numbers import E_1, HALF, START_WIDE, WINDOWS, where
 
 import exact
@@ -58,8 +58,8 @@ def saving_rule():
     yield "and how likely they are together is what the totals below d leave of 1."
     no_law = Fraction(rows("no_law.txt")[0][1]) / (1 + HALF)
     yield where(no_law != UNIT,
-                "That all chances add up to 1 is known from the law and not from the table, just as in part 2 that no chance is below zero. "
-                "The amounts of `no_law.txt` there do not add up to 1, and a price made from them would say nothing.")
+                "That all chances add up to 1 is known from the law and not from the table, just as in part 2 that no chance is below zero."
+                " The amounts of `no_law.txt` there do not add up to 1, and a price made from them would say nothing.")
     low, high = columns()
     enclosed = all(less_saved(high, *layer) <= less_saved(WINDOWS, *layer) <= less_saved(low, *layer) for layer in ascending(2))
     yield where(enclosed, "The saving comes off, so **the high takes the lows and the low takes the highs**.")
@@ -87,8 +87,9 @@ def below_zero():
                 f"Up to total {c} this layer saves all of its {d - c} money units. So the width of each of these lines counts three times, "
                 f"and low and high are {high - low} units apart.")
     yield where(low < 0 < exact_average < high,
-                f"The exact average is {cut(exact_average, 2)} units, so it lies between them. Read the low as in part 2: no payment is "
-                f"below zero, so if your law is a true one, read a negative low as 0. Write down: at most {nine_digits(high)}.")
+                f"The exact average, {cut(exact_average, 2)} units, is less than this width, and lies between them. Read the low as in "
+                f"part 2: no payment is below zero, so if your law is a true one, read a negative low as 0. Write down: at most "
+                f"{nine_digits(high)}.")
 
 
 def barns():
@@ -97,6 +98,7 @@ def barns():
     *small, large = (f"{weight} of size {size}" for size, weight in enumerate(read.weights, 1) if weight)
     yield (f"with {read.b[0]} claims a year on average, by a Poisson law. Its records have {sum(read.weights):,} claims: "
            f"{', '.join(small)}, and {large}, where a barn burned down.")
+    yield where(Law(2, 1).line() in sheet(BARNS).decode().splitlines(), "The START line is that of mean 2, from part 1.")
     yield "The neighbour wants to give away what a year costs above 10, in two layers. The mutual prices them from the curve:"
     yield where(READ == re.match(r"\d*", TYPED)[0] and RIGHT == TYPED.replace("n", ""),
                 f"The sheet had been typed with `W {TYPED}` at its end, an n in the midst of {RIGHT}. The old tool read the word up to the "
