@@ -1,5 +1,5 @@
-"""The sentences of part 5 of docs/CLASS.md that have numbers, as lesson_numbers.py has those of the other parts. All layers of the windows'
-table stand for a layer where something holds for every one."""
+"""The sentences of part 5 of docs/CLASS.md that have numbers, as lesson_numbers.py has those of the other parts. What holds for every layer
+is tried for all layers of the windows' table."""
 import re
 from fractions import Fraction
 from itertools import combinations
@@ -34,9 +34,9 @@ def ascending(count):
     return combinations(range(job(POISSON).last + 2), count)
 
 
-def average(amounts, layer):
-    """What a layer pays by the exact amounts, in billionths."""
-    return less_saved(amounts, *map(int, layer.split(":")))
+def average(c, d):
+    """What a layer of the windows pays, in billionths: payment times exact amount. What is left of U belongs to later totals."""
+    return sum(payment(x, c, d) * amount for x, amount in enumerate(WINDOWS)) + (d - c) * (UNIT - sum(WINDOWS))
 
 
 def refused_by(layer, other=None):
@@ -61,17 +61,16 @@ def saving_rule():
                 "That all chances add up to 1 is known from the law and not from the table, just as in part 2 that no chance is below zero."
                 " The amounts of `no_law.txt` there do not add up to 1, and a price made from them would say nothing.")
     low, high = columns()
-    enclosed = all(less_saved(high, *layer) <= less_saved(WINDOWS, *layer) <= less_saved(low, *layer) for layer in ascending(2))
+    enclosed = all(less_saved(high, *layer) <= average(*layer) <= less_saved(low, *layer) for layer in ascending(2))
     yield where(enclosed, "The saving comes off, so **the high takes the lows and the low takes the highs**.")
 
 
 def small_layer():
-    layer = "3:5"
-    (low, high), exact_average = cost(layer, POISSON), average(WINDOWS, layer)
+    (low, high), exact_average = cost("3:5", POISSON), average(3, 5)
     yield f"The tool does this for you, for one layer or for a list of up to {MOST_LAYERS}:"
     yield f'Below its lines it says how to read them: "{MEANING}" A money unit is what a claim of 1 costs.'
-    yield (f"If that is {1000:,} crowns, the layer {layer} pays {both_round_to((1000 * low, 1000 * high), 2)} crowns in a year on average; "
-           f"both ends round to it.")
+    crowns = both_round_to((1000 * low, 1000 * high), 2)
+    yield f"If that is {1000:,} crowns, the layer 3:5 pays {crowns} crowns in a year on average; both ends round to it."
     yield where(low <= exact_average <= high,
                 f"The exact average is {cut(exact_average / UNIT, 9)} money units, and it does lie from low to high.")
 
@@ -79,7 +78,7 @@ def small_layer():
 def below_zero():
     last, c = job(POISSON).last, 18
     d = last + 1
-    (low, high), exact_average = cost(f"{c}:{d}", POISSON), average(WINDOWS, f"{c}:{d}")
+    (low, high), exact_average = cost(f"{c}:{d}", POISSON), average(c, d)
     yield where(refused_by(f"{c}:{d + 1}") == 63,
                 f"The table ends at total {last}, and the totals below d are enough. So the limit may be {d}, which is LAST + 1, and no "
                 f"more:")
@@ -188,9 +187,8 @@ def not_below():
 
 
 def wide_price():
-    layer = "3:5"
-    (low, high), narrow, exact_average = cost(layer, POISSON, START_WIDE), cost(layer, POISSON), average(WINDOWS, layer)
-    yield f"Price the layer {layer} by the START line of three digits of part 1."
+    (low, high), narrow, exact_average = cost("3:5", POISSON, START_WIDE), cost("3:5", POISSON), average(3, 5)
+    yield "Price the layer 3:5 by the START line of three digits of part 1."
     yield (f"Low and high are {high - low} units apart, where they were {narrow[1] - narrow[0]}. Write down "
            f"{both_round_to((low, high), 2)}.")
     yield where(low < exact_average <= high, f"By the low it need not be: the exact average, {cut(exact_average / UNIT, 9)}, is above it.")
