@@ -191,7 +191,9 @@ def wide_price():
     yield "Price the layer 3:5 by the START line of three digits of part 1."
     yield (f"Low and high are {high - low} units apart, where they were {narrow[1] - narrow[0]}. Write down "
            f"{both_round_to((low, high), 2)}.")
-    yield where(low < exact_average <= high, f"By the low it need not be: the exact average, {cut(exact_average / UNIT, 9)}, is above it.")
+    yield where(low < exact_average <= high,
+                f"that is enough on average, whatever the chances are between low and high, as they add up to 1. By the low it need not "
+                f"be: the exact average, {cut(exact_average / UNIT, 9)}, is above it.")
 
 
 PARTS = [cases, saving_rule, small_layer, below_zero, barns, too_cheap, no_warning, width_one, split, no_limit, short_table, not_below,
