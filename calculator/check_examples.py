@@ -40,6 +40,7 @@ LAWS = {
     "class/only_pairs.txt": (exact.bunches(2, exact.poisson(HALF)), e_to("-0.5")),
     "class/growing.txt": (exact.binomial(14, 4 * FIFTH), FIFTH ** 14),
     "class/turned.txt": (exact.binomial(14, 2 * FIFTH), (3 * FIFTH) ** 14),
+    "class/barns.txt": (exact.poisson(2), e_to("-2")),
 }
 REFUSED = {"refused.txt": b"REFUSED 24 8\n", "class/growing.txt": b"REFUSED 10 19\n"}
 

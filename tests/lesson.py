@@ -4,7 +4,6 @@ import ast
 import math
 import operator
 import pathlib
-import re
 import sys
 from fractions import Fraction
 from typing import NamedTuple, Optional
@@ -14,6 +13,7 @@ FOLDER = "examples/class/"
 sys.path.append(str(ROOT / "calculator"))
 
 import program
+from layer import array, layers
 from limits import MOST_WEIGHTS, UNIT
 from outward import first_entries, next_entries
 from sheet import read_job
@@ -23,14 +23,19 @@ OPERATORS = {ast.Add: operator.add, ast.Sub: operator.sub, ast.Mult: operator.mu
 
 
 def sheet(name, other=None):
-    """The bytes of a sheet, or of the same sheet with another line for the one with its keyword, as `LAST 18`."""
+    """The bytes of a sheet, or of the same sheet with another line for the last one with its keyword, as `LAST 18`."""
     read = (ROOT / FOLDER / name).read_bytes()
     if other is None:
         return read
-    changed, count = re.subn(rb"(?m)^%b .*$" % other.split()[0].encode(), other.encode(), read)
-    if count != 1:
-        raise ValueError(f"{name} has {count} lines for {other}")
-    return changed
+    line = f"{replaced(name, other)}\n".encode()
+    if read.count(line) != 1:
+        raise ValueError(f"{name} has {read.count(line)} lines for {other}")
+    return read.replace(line, f"{other}\n".encode())
+
+
+def replaced(name, other):
+    """The line that another stands for."""
+    return [line for line in sheet(name).decode().splitlines() if line.split()[0] == other.split()[0]][-1]
 
 
 def job(name, other=None):
@@ -53,6 +58,22 @@ def entries(read, last):
     while len(totals) <= last:
         totals.append(next_entries(read, totals))
     return totals
+
+
+def layers_asked(typed, name, other=None):
+    """What the calculator answers to layers that are typed as 3:5: number and place, and low and high of each."""
+    _, low, high, _ = map(list, zip(*rows(name, other)))
+    attachments, limits = zip(*(map(int, layer.split(":")) for layer in typed))
+    ends = [0] * len(typed), [0] * len(typed)
+    return layers(low, high, len(typed), array(attachments), array(limits), *ends), [*zip(*ends)]
+
+
+def cost(layer, name, other=None):
+    """Low and high of a layer."""
+    (number, _), (ends,) = layers_asked([layer], name, other)
+    if number:
+        raise ValueError(f"{layer} is refused by {number}")
+    return ends
 
 
 class Law(NamedTuple):

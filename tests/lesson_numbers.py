@@ -463,9 +463,9 @@ def comes_out(left, right, dots):
     return 0 <= evaluate(left) - evaluate(right) < Fraction(1, 10 ** (len(right) - right.index(".") - 1))
 
 
-def faults(text):
+def faults(text, parts):
     """What is wrong in the lesson's text, without its blocks and tables and with spaces for line ends."""
-    for part in PARTS:
+    for part in parts:
         for sentence in part():
             if sentence not in text:
                 yield f"{part.__name__}: this is not said: {sentence}"
