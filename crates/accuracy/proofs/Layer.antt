@@ -5,7 +5,7 @@ use borrow.Author.Tests.{le-ltb}
 use Rattle.model.specs.Answer.{firstOf}
 use Rattle.exact.specs.JobAmount.{amount}
 use Rattle.layer.specs.Call.{layerCosts}
-use Rattle.layer.proofs.Enclosed.{encloses-always-continues}
+use Rattle.layer.proofs.Enclosed.{encloses-continued}
 use Rattle.accuracy.specs.Layer.{LayerRowsNotRefused, JobEnclosesLayer}
 use Rattle.accuracy.proofs.Rows.{right-lengths, right-entries, rows-enclose}
 
@@ -16,4 +16,4 @@ layer-rows-not-refused job weights lent ok list answerLow answerHigh =
 
 pub job-encloses-layer : JobEnclosesLayer
 job-encloses-layer job weights lent ok h p s t =
-    encloses-always-continues _ _ (amount job weights h p) (rows-enclose job weights lent ok h p s t)
+    encloses-continued _ _ (amount job weights h p) (rows-enclose job weights lent ok h p s t)

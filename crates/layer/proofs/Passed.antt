@@ -1,8 +1,8 @@
--- What an acceptance says: no condition holds, so the rows are as in a level query, the list is short enough, and each layer lies within the
--- rows.
+-- What an acceptance says: no condition holds, so the rows are as in a level query, the list is short enough, and each layer lies within
+-- the rows.
 use mathlib.Core.Path.{_≡_, sym}
 use mathlib.Core.Bool.{false, _||_}
-use mathlib.Core.List.{List, [], _∷_}
+use mathlib.Core.List.{List}
 use mathlib.Core.Logic.{_⊎_, inl, inr}
 use Prim.Native.Nat.{ℕ, zero, suc, _+_, _≤_, _<_}
 use native.Mathlib.Nat as NL
@@ -18,7 +18,8 @@ use Rattle.model.proofs.Answer.{none-holds}
 use Rattle.model.proofs.Tests.{within}
 use Rattle.intervals.proofs.Passed.{Passed, passed}
 use Rattle.layer.specs.declared.LayerList.{LayerList}
-use Rattle.layer.specs.Call.{attachment, limit, mostLayers, wrongCount, listChecks, layerConditions, layerChecks, allLayerChecks, checks}
+use Rattle.layer.specs.Call.{attachment, limit, mostLayers, wrongCount}
+use Rattle.layer.specs.Call.{listChecks, layerConditions, layerChecks, allLayerChecks, checks}
 use Rattle.layer.specs.Room.{Fitting}
 
 -- 61
@@ -67,5 +68,5 @@ call-passed low high list lowPlaces highPlaces e =
     record {
       rows = passed low high (fails .0 31) (fails .0 33);
       count = counted (list .count) lowPlaces highPlaces (fails .0 61);
-      fitting = λ i l. layers-passed (length low) (list .attachments) (list .limits) (list .count) 0 (fails .1) i (omega arith) (omega arith);
+      fitting = λ i l. layers-passed _ (list .attachments) (list .limits) (list .count) 0 (fails .1) i (omega arith) (omega arith);
     }

@@ -26,7 +26,8 @@ module _ (c : tie.After-enum-told2) where
   passes : accepted ≡ answer entry
   passes = sym (ap paper (c .enum-told2 .given .1)) ∙ c .before .before .checked .ensures
 
-  passed : let a = entry .args in CallPassed (a .low .now) (a .high .now) (a .list) (length (a .answer-low .now)) (length (a .answer-high .now))
+  passed : let a = entry .args in
+      CallPassed (a .low .now) (a .high .now) (a .list) (length (a .answer-low .now)) (length (a .answer-high .now))
   passed = call-passed _ _ _ _ _ (sym passes)
 
   low-writable : let a = entry .args in Writable (a .high .now) (a .list) (length (a .answer-low .now))

@@ -25,7 +25,8 @@ abbrev μ-loop : tie.MeasureT-loop
 -- the conditions from layer i on, with those of layer i apart
 module _ (places count : ℕ) (attachments limits : List ℕ) (i : ℕ) where
   abbrev apart : List Condition
-  apart = layerConditions places (getD attachments i 0) (getD limits i 0) i ++ layerChecks places attachments limits (count - (i + 1)) (i + 1)
+  apart = layerConditions places (getD attachments i 0) (getD limits i 0) i
+      ++ layerChecks places attachments limits (count - (i + 1)) (i + 1)
 
   from-next : i < count → layerChecks places attachments limits (count - i) i ≡ apart
   unfolding layerChecks

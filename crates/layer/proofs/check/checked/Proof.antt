@@ -2,16 +2,14 @@
 -- layers.
 use borrow.Author.Needs.{needs}
 use borrow.Author.Tests.{lt-ltb, le-ltb}
-use mathlib.Core.Path.{_≡_, sym, _∙_}
-use mathlib.Core.Bool.{false}
+use mathlib.Core.Path.{sym, _∙_}
 use mathlib.Core.List.{List}
-use Prim.Native.Nat.{ℕ}
-use lib.Dec.{ltb, lit<}
+use lib.Dec.{ltb}
 use lib.ListN.{length}
-use Rattle.model.specs.Answer.{Condition, firstOf}
+use Rattle.model.specs.Answer.{Condition}
 use Rattle.model.proofs.Answer.{Due, due-first, due-next, due-refuses, due-leaves}
 use Rattle.intervals.proofs.Passed.{same-length}
-use Rattle.layer.specs.Call.{listChecks, allLayerChecks, checks}
+use Rattle.layer.specs.Call.{checks}
 use Rattle.layer.proofs.Passed.{counted}
 use Rattle.layer.proofs.check.checked.Statement.{statement}
 use Rattle.layer.proofs.check.checked.Tie as tie
