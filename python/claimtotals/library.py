@@ -102,6 +102,6 @@ def answered(name: str, given: Sequence[int], *kinds: type) -> list[int]:
 
 
 def version() -> str:
-    """That of the library: 0.5.0."""
+    """That of the library: 0.6.0."""
     number = calls().claimtotals_version()
     return f"{number // 10_000}.{number // 100 % 100}.{number % 100}"
