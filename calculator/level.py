@@ -16,16 +16,30 @@ def refused(number, place=0):
     return Answer(number, place, 0)
 
 
-def first_check(low, high, level):
-    """Refusals 31 to 33, which stay in both calls, or None."""
+def check_rows(low, high):
+    """Refusal 31 as number and place, or None."""
     if not low or len(low) != len(high) or len(low) > MOST_TOTALS:
-        return refused(31)
-    if not 1 <= level <= UNIT:
-        return refused(32)
+        return 31, 0
+    return None
+
+
+def check_level(level):
+    """Refusal 32, or None."""
+    return None if 1 <= level <= UNIT else (32, 0)
+
+
+def check_entries(low, high):
+    """Refusal 33, or None."""
     for x, entry in enumerate(zip(low, high)):
         if any(abs(end) > MOST_END for end in entry) or entry[0] > entry[1]:
-            return refused(33, x)
+            return 33, x
     return None
+
+
+def first_check(low, high, level):
+    """Refusals 31 to 33, which stay in both calls, or None."""
+    refusal = check_rows(low, high) or check_level(level) or check_entries(low, high)
+    return refused(*refusal) if refusal else None
 
 
 def smallest_reaching(row, level, otherwise):
