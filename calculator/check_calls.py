@@ -1,23 +1,26 @@
 """The calls that the program crates/calls makes, and what the calculator says to each. Checks that the calculator gives the answer that the
 case asks for, that the exact amounts of an accepted curve lie within its lows and highs and the exact chance of no claims within its start,
-that what sure and possible say of such a curve is true of its exact amounts, that the law made from a customer's line follows this line,
-and that the program's files stdin and stdout hold just these calls and the calculator's answers; with --write it writes the files
-first."""
+that what sure and possible say of such a curve is true of its exact amounts, and what layers says of it of mean payments, that the law made
+from a customer's line follows this line, and that the program's files stdin and stdout hold just these calls and the calculator's answers;
+with --write it writes the files first."""
 import pathlib
 import sys
 from collections import Counter
 from typing import NamedTuple
 
 import cases_curve
+import cases_layer
 import cases_level
 import cases_published
 import cases_reader
 import cases_start
 from enclosed import amounts_per_unit, outside
 from followed import another_law, off_hesselager, off_panjer_willmot
+from layer import array, layers
 from level import possible, sure
 from limits import LAST_TOTAL
 from outward import Lent, curve
+from paid import tried_on_curve
 from published import law_hesselager, law_panjer_willmot
 from reached import answers, untrue_totals
 from sheet import read_sheet
@@ -26,21 +29,26 @@ from started import outside_mean, outside_trials
 
 FOLDER = pathlib.Path(__file__).parent.parent / "crates/calls"
 
-# what a place of the curve's rows holds before the call
+# what a place of the rows that a call writes into holds before it
 MARK = -2 ** 63
-
 
 # how often sure and possible are answered by these numbers, at least, on the curves' rows
 LEVELS = {(0, 0): 1000, (34, 0): 500, (34, 35): 100}
 
+# how many calls, layers and lists of amounts of each kind are tried, at least, on these rows
+PAYMENTS = {"calls": 200, "layers": 2000, "exact amounts below d": 5000, "exact amounts from d on too": 3500,
+            "exact amounts that come to U": 450, "lows": 2000, "highs": 2000, "amounts between": 6000}
+
 
 class Call(NamedTuple):
-    """A case as the program has it, and what is wrong with it; and of a curve, the numbers of the answers to the levels that were tried."""
+    """A case as the program has it, and what is wrong with it; and of a curve, the numbers of the answers to the levels that were tried,
+    and the kinds of what was tried on layers."""
     name: str
     record: bytes
     line: bytes
     faults: list
     levels: tuple = ()
+    payments: tuple = ()
 
 
 def words(*numbers):
@@ -82,11 +90,19 @@ def curve_faults(case, said, lent):
 
 
 def exact_checks(case, lent):
-    """Of an accepted curve: its faults, and the numbers that sure and possible answered at the levels that were tried."""
+    """Of an accepted curve: its faults, the numbers that sure and possible answered at the levels that were tried, and the kinds of what
+    was tried on layers."""
     amounts = amounts_per_unit(case.job, case.law, case.exact_to)
     levels = answers(lent, len(amounts))
+    payments = list(tried_on_curve(case.job, lent, amounts))
     faults = [*outside(case.job, lent, amounts), *untrue_totals(case.job, levels, amounts)]
-    return faults, [(said.number, may_be.number) for said, may_be in levels.values()]
+    faults += [fault for _, found in payments for fault in found]
+    return faults, [(said.number, may_be.number) for said, may_be in levels.values()], [kind for kind, _ in payments]
+
+
+def written(row):
+    """The places that the call wrote."""
+    return [f"{x}={held}" for x, held in enumerate(row) if held != MARK]
 
 
 def curve_call(case):
@@ -94,14 +110,14 @@ def curve_call(case):
     places = case.lent or [n + 2 for n in cases_curve.needed(min(job.last, LAST_TOTAL))]
     lent = Lent(*([MARK] * n for n in places))
     said = curve(job, lent)
-    written = [[f"{x}={held}" for x, held in enumerate(row) if held != MARK] for row in (lent.low, lent.high, lent.bound, lent.work)]
-    faults, levels = exact_checks(case, lent) if said == (0, 0) else ([], [])
+    faults, levels, payments = exact_checks(case, lent) if said == (0, 0) else ([], [], [])
     return Call(
         case.name,
         words(2, job.order, job.divisor, *job.a, *job.b, job.low_start, job.high_start, job.last) + counted(job.weights) + words(*places),
-        line(said, *written),
+        line(said, *map(written, (lent.low, lent.high, lent.bound, lent.work))),
         [*curve_faults(case, said, lent), *faults],
         levels,
+        payments,
     )
 
 
@@ -161,9 +177,35 @@ def hesselager_call(case):
     return law_call(case, 7, law_hesselager, off_hesselager)
 
 
+def layer_faults(case, said, rows):
+    """The first places have the layers' lows, and highs; the others keep what they held."""
+    yield from differences((case.number, case.place), said)
+    for end, row in enumerate(rows):
+        asked = [cost[end] for cost in case.costs]
+        yield from differences(asked + [MARK] * (len(row) - len(asked)), row)
+
+
+def layer_call(case):
+    attachments, limits = [c for c, _ in case.layers], [d for _, d in case.layers]
+    rows = [[MARK] * n for n in case.places()]
+    said = layers(case.low, case.high, case.told(), array(attachments), array(limits), *rows)
+    return Call(
+        case.name,
+        words(8) + counted(case.low) + counted(case.high) + words(case.told()) + counted(attachments) + counted(limits)
+        + words(*case.places()),
+        line(said, *map(written, rows)),
+        list(layer_faults(case, said, rows)),
+    )
+
+
 def stored(name):
     path = FOLDER / name
     return path.read_bytes() if path.exists() else b""
+
+
+def too_few(what, tried, needed):
+    if any(tried[kind] < least for kind, least in needed.items()):
+        yield f"too few {what} were tried on the curves: {dict(tried)}"
 
 
 def main():
@@ -171,7 +213,8 @@ def main():
         sys.exit(f"usage: {sys.argv[0]} [--write]")
     calls = [*map(reader_call, cases_reader.CASES), *map(curve_call, cases_curve.CASES), *map(level_call, cases_level.CASES),
              *map(mean_call, cases_start.MEANS), *map(trials_call, cases_start.TRIALS),
-             *map(panjer_willmot_call, cases_published.PANJER_WILLMOT), *map(hesselager_call, cases_published.HESSELAGER)]
+             *map(panjer_willmot_call, cases_published.PANJER_WILLMOT), *map(hesselager_call, cases_published.HESSELAGER),
+             *map(layer_call, cases_layer.CASES)]
     records = b"".join(call.record for call in calls)
     if sys.argv[1:]:
         (FOLDER / "stdin").write_bytes(records)
@@ -186,12 +229,13 @@ def main():
     if len(lines) != len(calls):
         faults.append(f"stdout has {len(lines)} lines for {len(calls)} calls")
     levels = Counter(numbers for call in calls for numbers in call.levels)
-    if any(levels[numbers] < least for numbers, least in LEVELS.items()):
-        faults.append(f"too few levels were tried on the curves: {dict(levels)}")
+    payments = Counter(kind for call in calls for kind in call.payments)
+    faults += [*too_few("levels", levels, LEVELS), *too_few("payments of layers", payments, PAYMENTS)]
     kinds = (f"{len(cases_reader.CASES)} sheets, {len(cases_curve.CASES)} curves, {len(cases_level.CASES)} levels, "
              f"{len(cases_start.MEANS) + len(cases_start.TRIALS)} starts, "
-             f"{len(cases_published.PANJER_WILLMOT) + len(cases_published.HESSELAGER)} laws")
-    print(*faults, f"calls: {kinds} set beside the calculator, {sum(levels.values())} levels on the curves, {len(faults)} faults", sep="\n")
+             f"{len(cases_published.PANJER_WILLMOT) + len(cases_published.HESSELAGER)} laws, {len(cases_layer.CASES)} lists of layers")
+    on_curves = f"{sum(levels.values())} levels and {payments['layers']} layers on the curves"
+    print(*faults, f"calls: {kinds} set beside the calculator, {on_curves}, {len(faults)} faults", sep="\n")
     if faults:
         sys.exit(1)
 

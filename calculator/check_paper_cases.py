@@ -1,6 +1,7 @@
-"""Sets the calls in crates/cases/specs/Cases.antt beside outward.py, sheet.py, level.py, start.py, published.py and program.py, and the
-lows and highs of curves beside the exact amounts of exact.py. Every row must be read, and agree. Short names are read as the file defines
-them, with parameters or without; words that it takes from elsewhere are in WORDS. Another file of this form can be given as an argument."""
+"""Sets the calls in crates/cases/specs/Cases.antt beside outward.py, sheet.py, level.py, layer.py, start.py, published.py and program.py,
+and the lows and highs of curves beside the exact amounts of exact.py. Every row must be read, and agree. Short names are read as the file
+defines them, with parameters or without; words that it takes from elsewhere are in WORDS. Another file of this form can be given as an
+argument."""
 import operator
 import pathlib
 import re
@@ -10,6 +11,7 @@ from inspect import signature
 from typing import NamedTuple
 
 from enclosed import amounts_per_unit, outside
+from layer import array, layers
 from level import possible, sure
 from outward import Job, Lent, curve
 from program import output
@@ -64,6 +66,13 @@ def on_level(low, high, level):
     return {"sure": total_record(sure(low, high, level)), "possible": total_record(possible(low, high, level))}
 
 
+def on_layers(low, high, listed, answer_low, answer_high):
+    """The answer, and what the two answer rows hold afterwards."""
+    rows = {"low": list(answer_low), "high": list(answer_high)}
+    said = layers(low, high, listed["count"], listed["attachments"], listed["limits"], *rows.values())
+    return {"what is told": {"answer": answer(*said), **rows}}
+
+
 def start_record(said):
     return {"start": {"answer": answer(said.number, 0), "ends": {"low": said.low, "high": said.high}}}
 
@@ -95,8 +104,9 @@ def on_program(sheet):
 
 
 # each with the number of rows that there are at least
-KINDS = {"curve": (on_curve, 17), "reader": (on_reader, 8), "level": (on_level, 14), "mean": (on_mean, 7), "trials": (on_trials, 10),
-         "panjerWillmot": (on_panjer_willmot, 9), "hesselager": (on_hesselager, 7), "program": (on_program, 5)}
+KINDS = {"curve": (on_curve, 17), "reader": (on_reader, 8), "level": (on_level, 14), "layers": (on_layers, 0),
+         "mean": (on_mean, 7), "trials": (on_trials, 10), "panjerWillmot": (on_panjer_willmot, 9), "hesselager": (on_hesselager, 7),
+         "program": (on_program, 5)}
 
 
 class Row(NamedTuple):
@@ -128,6 +138,7 @@ WORDS = {
     "startOf": lambda low: lambda high: {"low": low, "high": high},
     "jobOf": lambda law: lambda start: lambda last: {"law": law, "start": start, "last": last},
     "partOf": lambda start: lambda count: {"start": start, "count": count},
+    "layerList": lambda count: lambda from_: lambda to: {"count": count, "attachments": array(from_), "limits": array(to)},
     "accepted": answer(0, 0),
     "refused": lambda number: lambda place: answer(number, place),
     "lentRows": lambda low: lambda high: lambda bound: lambda work: {"low": low, "high": high, "bound": bound, "work": work},
@@ -162,10 +173,10 @@ class Definitions:
         self.found = {name: (parameters.split(), body) for name, parameters, body in found if clauses[name] == 1}
 
     def value(self, name, local):
-        """A parameter may have the name of a word."""
+        """A parameter may have the name of a word, and what the file defines goes before a word from elsewhere."""
         if name in local:
             return local[name]
-        if name in WORDS:
+        if name not in self.found:
             return WORDS[name]
         parameters, body = self.found[name]
         return self.function(parameters, re.findall(r'"[^"]*"|[(){};]|[^\s(){};"]+', body), {})
