@@ -111,7 +111,7 @@ def on_tens(name, *layers):
 
 
 def alone(x, low, high):
-    """A row of 6 places with one number, at place x, and zeros."""
+    """Rows of 6 places with one low and one high, at place x, and zeros."""
     return [low if y == x else 0 for y in range(6)], [high if y == x else 0 for y in range(6)]
 
 
@@ -170,7 +170,8 @@ VALUES = [
     # saves 2, 1: 2U - (4U + 2U) and 2U - (-4U + 2U); saves 1, 1: U - (2U + 2U) and U - (-2U + 2U)
     taken("entries of -2U and 2U", [-END, END], [END, END], [(0, 2), (1, 2)], [(-4 * UNIT, 4 * UNIT), (-3 * UNIT, UNIT)]),
 
-    # 501 places
+    # 501 places: with entries of 2U, c:d costs d - c less twice what it saves, which is c * c - d * d in U; with entries of -2U it costs
+    # d - c and twice what it saves. 0:501 has the least and the greatest of these.
     # 0:501 saves 501 + .. + 1 = 501 * 502 / 2 = 125751 in all, and twice that is 251502; 501 - 251502 and 501 + 251502, in U
     # 1:501 saves 500 + 500 * 501 / 2 = 125750, twice 251500; 500 - 251500 and 500 + 251500
     # 250:501 saves 250 * 251 + 251 * 252 / 2 = 62750 + 31626 = 94376, twice 188752; 251 - 188752 and 251 + 188752

@@ -87,7 +87,8 @@ def from_rows(r, low, high, d):
 
 def off_cost(kind, mean, low, high):
     """Where each amount below d is its low, the high is paid, and where it is its high, the low is."""
-    if kind == "lows" and mean != high or kind == "highs" and mean != low or not low <= mean <= high:
+    due = {"lows": high, "highs": low}
+    if mean != due.get(kind, mean) or not low <= mean <= high:
         return [f"{kind}: about {float(mean)} is paid, and the layer has {low} to {high}"]
     return []
 
