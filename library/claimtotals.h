@@ -23,8 +23,8 @@ extern "C" {
 #endif
 
 /* The version of this header, as a number, major * 10,000 + minor * 100 + patch, and as text. */
-#define CLAIMTOTALS_VERSION 500
-#define CLAIMTOTALS_VERSION_TEXT "0.5.0"
+#define CLAIMTOTALS_VERSION 600
+#define CLAIMTOTALS_VERSION_TEXT "0.6.0"
 
 #define CLAIMTOTALS_UNIT INT64_C(1000000000)
 
@@ -32,6 +32,9 @@ extern "C" {
 #define CLAIMTOTALS_WEIGHTS 500
 #define CLAIMTOTALS_TOTALS 501
 #define CLAIMTOTALS_WORK (9 * CLAIMTOTALS_TOTALS)
+
+/* The two arrays of a list of layers have so many places; rows of as many are always long enough for their costs. */
+#define CLAIMTOTALS_LAYERS 64
 
 /* The start of a Poisson law, from its mean: U times e to the -r/s lies from low to high.
 
@@ -205,6 +208,41 @@ uint64_t claimtotals_sure(const int64_t *low, size_t low_length, const int64_t *
    total is at most the sure one; but it needs no sure total, and may accept where that call refuses by 34. */
 uint64_t claimtotals_possible(const int64_t *low, size_t low_length, const int64_t *high, size_t high_length, int64_t level, size_t *place,
                               size_t *total);
+
+/* What layers of a stop-loss cover cost: for each layer of a list the mean of what it pays in a year, as a low and a high, in billionths of
+   a money unit, which is what totals are counted in. At a total x a layer with attachment c and limit d pays nothing up to c, x - c from
+   there to d, and d - c beyond. The limit is the total at which the layer ends, and not its width.
+
+   low, high     the first X+1 places of a curve's rows; only read
+   attachments, limits
+                 c and d of each layer, in arrays of CLAIMTOTALS_LAYERS places. All places are read, whatever count is; those from count on
+                 may hold any numbers
+   count         how many layers there are
+   answer_low,
+   answer_high   rows for the answer, count places or more
+   place         the place of a refusal; 0 after an acceptance
+
+   0    accepted: the first count places of the two rows hold the low and the high of each layer, and later places keep what they held
+   31   the rows are empty, not equally long, or longer than 501
+   33   a low or a high lies outside -2U to 2U, or the low is above the high; the place is the first such
+   61   the list of layers is empty, longer than 64, or longer than a row for the answers
+   Then layer by layer, in this order for a layer:
+   62   a layer's attachment is not below its limit; the place is the first layer with this fault or the next, counted from 0
+   63   a layer's limit is above X+1, where X is the last total of the rows; the place is the first layer with a fault, and 62 comes first
+        there
+
+   At each total a layer saves d - c less what it pays. Its high is (d - c) times U less the sum of saving times low over all totals below
+   d, and its low is the same with the highs.
+
+   What the two say: take any amounts, one for each total from 0 to d - 1 or further, that lie from low to high at each total below d and
+   come to U together. Then the sum of payment times amount over all totals lies from the layer's low to its high. Nothing else is asked of
+   the amounts from d on: all totals there pay d - c, so that one amount may stand for all of them, and a law without a largest total is
+   covered too. So it is with the exact chances of an accepted job below d, together with whatever lies from d on and makes all come to U;
+   where the chances of the law come to U, the mean payment lies from low to high. A low may be negative, though no payment is. It is never
+   above the high, and neither is larger in size than 252,003,000,000,000, so that a double holds them. */
+uint64_t claimtotals_layers(const int64_t *low, size_t low_length, const int64_t *high, size_t high_length,
+                            const size_t attachments[CLAIMTOTALS_LAYERS], const size_t limits[CLAIMTOTALS_LAYERS], size_t count,
+                            int64_t *answer_low, size_t answer_low_length, int64_t *answer_high, size_t answer_high_length, size_t *place);
 
 /* The version of the library that runs, a number like CLAIMTOTALS_VERSION, which is that of the header a program was compiled with. Where
    the library is shared the two may differ. Before 1.0 a minor version may change calls: where claimtotals_version() / 100 is not

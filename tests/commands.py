@@ -200,7 +200,7 @@ def sums_line(command, file, sheet):
 
 
 def excess_line(command, file, sheet):
-    """The same where they add up to more than 1, which is said with levels and pictures too."""
+    """The same where they add up to more than 1, which is said with levels, layers and pictures too."""
     return sums_line(command, file, sheet) if sum(row[1] for row in rows(sheet)) > UNIT else ""
 
 

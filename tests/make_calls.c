@@ -99,6 +99,17 @@ static void call_level(level_query *query) {
     give_rows(rows, sizeof rows / sizeof *rows);
 }
 
+static void call_layers(void) {
+    struct row low = take_row(8), high = take_row(8), attachments = take_row(8), limits = take_row(8);
+    size_t count = number();
+    struct row answer_low = take_row(8), answer_high = take_row(8), place = take_row(8);
+    uint64_t answer = claimtotals_layers(low.block, low.places, high.block, high.places, attachments.block, limits.block, count,
+                                         answer_low.block, answer_low.places, answer_high.block, answer_high.places, place.block);
+    give(&answer, sizeof answer);
+    struct row rows[] = {low, high, attachments, limits, answer_low, answer_high, place};
+    give_rows(rows, sizeof rows / sizeof *rows);
+}
+
 static void call_start_mean(void) {
     uint64_t upper = number(), lower = number();
     struct row low = take_row(8), high = take_row(8);
@@ -143,6 +154,7 @@ int main(void) {
         case 'f': call_faulty_word(); break;
         case 's': call_level(claimtotals_sure); break;
         case 'o': call_level(claimtotals_possible); break;
+        case 'l': call_layers(); break;
         case 'm': call_start_mean(); break;
         case 't': call_start_trials(); break;
         case 'p': call_law_panjer_willmot(); break;

@@ -11,7 +11,7 @@ from random_calls import Row
 GUARD = 64
 
 LETTERS = {"claimtotals_curve": b"c", "claimtotals_read_sheet": b"r", "claimtotals_faulty_word": b"f", "claimtotals_sure": b"s",
-           "claimtotals_possible": b"o", "claimtotals_start_mean": b"m", "claimtotals_start_trials": b"t",
+           "claimtotals_possible": b"o", "claimtotals_layers": b"l", "claimtotals_start_mean": b"m", "claimtotals_start_trials": b"t",
            "claimtotals_law_panjer_willmot": b"p", "claimtotals_law_hesselager": b"h"}
 
 

@@ -3,14 +3,16 @@ takes its chances from `r`, a random.Random, but for `numbered`, which makes one
 import random
 import re
 from array import array
+from functools import partial
 from itertools import accumulate
 from typing import NamedTuple
 
 import random_sheets
 from followed import off_hesselager, off_panjer_willmot
+from layer import layers
 from level import possible, sure
-from limits import (LAST_TOTAL, MOST_DIVISOR, MOST_END, MOST_LOWER, MOST_MEAN, MOST_ORDER, MOST_SUM, MOST_TERM, MOST_TOTALS, MOST_TRIALS,
-                    MOST_WEIGHTS, UNIT, WORK_COLUMNS)
+from limits import (LAST_TOTAL, MOST_DIVISOR, MOST_END, MOST_LAYERS, MOST_LOWER, MOST_MEAN, MOST_ORDER, MOST_SUM, MOST_TERM, MOST_TOTALS,
+                    MOST_TRIALS, MOST_WEIGHTS, UNIT, WORK_COLUMNS)
 from outward import Job, Lent, curve
 from published import law_hesselager, law_panjer_willmot
 from random_sheets import near
@@ -288,12 +290,21 @@ def random_level(r, low, high):
     return r.choice((0, 1, *near(UNIT), -1, r.choice((LEAST, MOST, 2 ** 32 + 1)), r.randint(1, UNIT), r.randint(1, UNIT)))
 
 
+def good_rows(r):
+    return r.choice((curve_rows, spread_rows, short_rows, falling_rows, signed_rows))(r)
+
+
+def change_rows(r, low, high):
+    """Mostly such that they are refused."""
+    for _ in range(r.choice((1, 1, 2))):
+        r.choice((wrong_entry, wrong_entry, wrong_entry, turned_entry, turned_entry, other_length, long_rows, no_rows))(r, low, high)
+
+
 def rows_and_level(r):
-    low, high = r.choice((curve_rows, spread_rows, short_rows, falling_rows, signed_rows))(r)
+    low, high = good_rows(r)
     level = random_level(r, low, high)
     if r.random() < 0.4:
-        for _ in range(r.choice((1, 1, 2))):
-            r.choice((wrong_entry, wrong_entry, wrong_entry, turned_entry, turned_entry, other_length, long_rows, no_rows))(r, low, high)
+        change_rows(r, low, high)
     return low, high, level
 
 
@@ -312,6 +323,78 @@ def sure_call(r):
 
 def possible_call(r):
     return level_call(r, "claimtotals_possible", possible)
+
+
+# ---- rows and lists for layers
+
+def extreme_rows(r):
+    """With the greatest costs that there can be, of either sign: all entries of a row are at the same limit."""
+    count = r.choice((1, 2, r.randint(1, MOST_TOTALS), MOST_TOTALS))
+    low, high = r.choice(((-MOST_END, MOST_END), (MOST_END, MOST_END), (-MOST_END, -MOST_END)))
+    return [low] * count, [high] * count
+
+
+def good_layer(r, places):
+    """Within rows of so many places: any, the whole, the last place alone, or the first."""
+    limit = r.randint(1, places)
+    return r.choice(((r.randrange(limit), limit), (r.randrange(limit), limit), (0, limit), (r.randrange(places), places), (0, places),
+                     (places - 1, places), (0, 1)))
+
+
+def wrong_layer(r, places):
+    """With one fault or both: an attachment at the limit or above, a limit above the rows, by one or by far. 32 bits would take some of
+    them for good ones."""
+    attachment, limit = good_layer(r, places)
+    past = r.choice((places + 1, places + 1, places + 2, places + 2 ** 32, r.choice(HUGE)))
+    great = r.choice((attachment + 2 ** 32, limit + 2 ** 32, r.choice(HUGE)))
+    too_high = (attachment, past), (attachment, past), (0, past), (past - 1, past)
+    turned = (limit, limit), (limit + 1, limit), (great, limit), (great, attachment), (attachment, 0)
+    return r.choice((*too_high, *turned, (past, past), (max(great, past), past)))
+
+
+def random_count(r):
+    """Mostly a good one; or one that 32 bits would take for a good one."""
+    some = r.randint(1, MOST_LAYERS)
+    wrong = r.choice((0, MOST_LAYERS + 1, r.randint(MOST_LAYERS + 1, 200), 2 ** 32 + some, r.choice(HUGE)))
+    return r.choice((1, 1, 2, 3, some, some, some, some, MOST_LAYERS - 1, MOST_LAYERS, MOST_LAYERS, wrong, wrong))
+
+
+def random_layers(r, count, places):
+    """Attachments and limits. Of the first `count` none is wrong, or some are, or all. The others are any numbers, some of them layers."""
+    good, told = partial(good_layer, r, max(1, places)), min(count, MOST_LAYERS)
+    wrong = partial(wrong_layer, r, max(1, places))
+    at_fault = r.sample(range(told), min(told, r.choice((0, 0, 0, 0, 0, 1, 1, 2, 3, told))))
+    pairs = [wrong() if place in at_fault else good() for place in range(told)]
+    pairs += [r.choice((good(), wrong(), marks(r, UNSIGNED, 2))) for _ in range(MOST_LAYERS - told)]
+    return [list(numbers) for numbers in zip(*pairs)]
+
+
+def answer_places(r, count):
+    """How many a row for the answers has: as many as there are layers, or more; now and then too few."""
+    needed = min(count, MOST_LAYERS)
+    if r.random() < 0.06:
+        return r.choice((max(0, needed - 1), max(0, needed - 1), r.randint(0, needed), 0))
+    return r.choice((needed, needed, needed + 1, needed + r.randint(2, 20), MOST_LAYERS, MOST_LAYERS, 80))
+
+
+def answer_row(before, after):
+    return Row(SIGNED, packed(SIGNED, before), packed(SIGNED, after), True)
+
+
+def layers_call(r):
+    low, high = extreme_rows(r) if r.random() < 0.1 else good_rows(r)
+    if r.random() < 0.25:
+        change_rows(r, low, high)
+    count = random_count(r)
+    attachments, limits = random_layers(r, count, len(low))
+    before = [marks(r, SIGNED, answer_places(r, count)) for _ in range(2)]
+    answer_low, answer_high = map(list, before)
+    number, place = layers(low, high, count, attachments, limits, answer_low, answer_high)
+    return Call("claimtotals_layers", [
+        ("low", read_only(SIGNED, low)), ("high", read_only(SIGNED, high)), ("attachments", read_only(UNSIGNED, attachments, False)),
+        ("limits", read_only(UNSIGNED, limits, False)), ("count", count), ("answer_low", answer_row(before[0], answer_low)),
+        ("answer_high", answer_row(before[1], answer_high)), ("place", number_row(r, UNSIGNED, place)),
+    ], number, number)
 
 
 # ---- means, chances and trials for the start
@@ -416,8 +499,8 @@ def hesselager_call(r):
 
 
 def call(r):
-    kinds = {curve_call: 40, reader_call: 20, word_call: 15, sure_call: 13, possible_call: 13, mean_call: 4, trials_call: 6,
-             panjer_willmot_call: 4, hesselager_call: 4}
+    kinds = {curve_call: 40, reader_call: 20, word_call: 15, sure_call: 13, possible_call: 13, layers_call: 15, mean_call: 4,
+             trials_call: 6, panjer_willmot_call: 4, hesselager_call: 4}
     return r.choices(list(kinds), list(kinds.values()))[0](r)
 
 
@@ -433,6 +516,7 @@ CAN_ARISE = {
     "claimtotals_faulty_word": ["none", "word", "empty word"],
     "claimtotals_sure": [0, 31, 32, 33, 34],
     "claimtotals_possible": [0, 31, 32, 33, 35],
+    "claimtotals_layers": [0, 31, 33, 61, 62, 63],
     "claimtotals_start_mean": [0, 41],
     "claimtotals_start_trials": [0, 41, 42, 43],
     "claimtotals_law_panjer_willmot": [0, 51, 52, 53],

@@ -8,6 +8,8 @@
     for row in chances:
         print(row.total, row.digits())
     print(chances.sure(500_000_000), chances.possible(500_000_000))
+    for cost in chances.layers([(1, 3)]):
+        print(cost.attachment, cost.limit, cost.digits())
 
 A sheet is plain text. This one has a Poisson law with mean 1 and claims of size 1 or 2, each as likely:
 
@@ -22,9 +24,10 @@ A sheet is plain text. This one has a Poisson law with mean 1 and claims of size
 `start_of_mean(1)` gives the start of this law, and `start_of_trials` that of a binomial law or of a negative binomial law of whole shape.
 `law_panjer_willmot` and `law_hesselager` give the divisor and the terms of a law, from the numbers of a publication's line.
 
-Chances are in units of one billionth. Every number comes from a call of the proved library; a call that refuses raises `Refused`, and what
-does not fit a call is a ValueError before it.
+Chances are in units of one billionth, what a layer costs is in billionths of a money unit. Every number comes from a call of the proved
+library; a call that refuses raises `Refused`, and what does not fit a call is a ValueError before it.
 """
+from claimtotals.costs import LayerCost, layers
 from claimtotals.curves import Curve, Job, Row, curve, possible, sure
 from claimtotals.laws import Law, law_hesselager, law_panjer_willmot
 from claimtotals.layout import digits
@@ -33,8 +36,8 @@ from claimtotals.refusals import Refused
 from claimtotals.sheets import Sheet, read_sheet
 from claimtotals.starts import Start, start_of_mean, start_of_trials
 
-__all__ = ["MOST_BYTES", "UNIT", "Curve", "Job", "Law", "Refused", "Row", "Sheet", "Start", "curve", "digits", "law_hesselager",
-           "law_panjer_willmot", "possible", "read_sheet", "start_of_mean", "start_of_trials", "sure"]
+__all__ = ["MOST_BYTES", "UNIT", "Curve", "Job", "Law", "LayerCost", "Refused", "Row", "Sheet", "Start", "curve", "digits",
+           "law_hesselager", "law_panjer_willmot", "layers", "possible", "read_sheet", "start_of_mean", "start_of_trials", "sure"]
 
 
 def __getattr__(name: str) -> str:

@@ -3,7 +3,7 @@ from __future__ import annotations
 
 from typing import Optional, Sequence
 
-from claimtotals.layout import chance
+from claimtotals.layout import decimal
 from claimtotals.library import UNIT
 
 # The chances of all totals add up to 1. A table is remarked on that is further from it than this, in units.
@@ -11,7 +11,7 @@ SLACK = UNIT // 1000
 
 
 def sums(low: Sequence[int], high: Sequence[int]) -> str:
-    return f"the chances of this table add up to between {chance(sum(low))} and {chance(sum(high))}"
+    return f"the chances of this table add up to between {decimal(sum(low))} and {decimal(sum(high))}"
 
 
 def about_excess(low: Sequence[int], high: Sequence[int]) -> Optional[str]:

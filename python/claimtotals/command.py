@@ -7,6 +7,7 @@ from typing import Callable, NamedTuple, Optional, Sequence, Union
 
 from claimtotals import layout, library, streams
 from claimtotals.advice import about_excess, about_sums
+from claimtotals.costs import LayerCost
 from claimtotals.curves import Curve
 from claimtotals.laws import law_hesselager, law_panjer_willmot
 from claimtotals.picture import DEFAULT_TITLE, picture
@@ -18,7 +19,7 @@ from claimtotals.usage import Once, Parser, Version, called, title
 COMMAND = "claimtotals"
 
 EXAMPLES = ("start --mean 37/10", "law --alpha 0 9 --beta 12 -1", "table examples/poisson.txt --digits", "level examples/poisson.txt 0.99",
-            "picture examples/poisson.txt -o glass.svg")
+            "layers examples/poisson.txt 5:10 10:20", "picture examples/poisson.txt -o glass.svg")
 STATUS = "status: 0; 1 where a call refuses, which is told in words on standard error; 2 for wrong use, and where input or output fails"
 
 
@@ -194,6 +195,51 @@ def level(given: argparse.Namespace) -> int:
     return streams.REFUSED if sentences else streams.SUCCESS
 
 
+# ---- layers
+
+# What the numbers are, below those of the layers.
+MEANING = ("Where all chances add up to 1, a layer pays in a year, on average, from low to high billionths of a money unit; the decimals "
+           "are money units.")
+
+
+class Layer(NamedTuple):
+    """As it was written, and as the call takes it."""
+    text: str
+    pair: tuple[int, int]
+
+
+def layer(text: str) -> Layer:
+    """The call judges. 18 digits always fit it."""
+    found = re.fullmatch("([0-9]{1,18}):([0-9]{1,18})", text)
+    if not found:
+        raise argparse.ArgumentTypeError(
+            f"{text!r:.60} is no layer: write 10:20 for the one from 10 to 20, in whole numbers of at most 18 digits")
+    return Layer(text, (int(found[1]), int(found[2])))
+
+
+def layer_costs(curve: Curve, asked: Sequence[Layer]) -> tuple[LayerCost, ...]:
+    """One call for all layers. Where it refuses one of them, that one is named as it was written."""
+    try:
+        return curve.layers([layer.pair for layer in asked])
+    except Refused as refusal:
+        if refusal.number in (62, 63):
+            refusal.at = f"layer {asked[refusal.place].text}"
+        raise
+
+
+def layer_line(name: str, low: int, high: int) -> str:
+    return f"layer {name}: low {low}, high {high}, or {layout.decimal(low)} to {layout.decimal(high)}\n"
+
+
+def layers(given: argparse.Namespace) -> int:
+    curve = known_curve(given.sheet)
+    costs = layer_costs(curve, given.layers)
+    lines = [layer_line(layer.text, cost.low, cost.high) for layer, cost in zip(given.layers, costs)]
+    streams.write_output("".join([*lines, f"{MEANING}\n"]).encode())
+    remark(given.sheet, about_excess(curve.low, curve.high))
+    return streams.SUCCESS
+
+
 # ---- picture
 
 def draw(given: argparse.Namespace) -> int:
@@ -295,6 +341,23 @@ def add_level(commands: argparse._SubParsersAction) -> None:
     parser.set_defaults(queries=list(QUERIES))
 
 
+def add_layers(commands: argparse._SubParsersAction) -> None:
+    parser = subcommand(
+        commands, "layers", layers,
+        "What layers of a stop-loss cover cost: the mean of what each pays in a year, as a low and a high.\n"
+        "\n"
+        "A layer is written ATTACHMENT:LIMIT, in the money units of the sheet's totals. The limit is the total where the layer ends, and\n"
+        "not its width: 20:50 is a cover of 30 in excess of 20. It pays nothing where a year's claims come to 20 or less, what they have\n"
+        "above 20 where they come to less than 50, and 30 where they come to 50 or more. A limit may be LAST + 1 at most: whatever lies\n"
+        "above it pays the same, and need not be computed.\n"
+        "\n"
+        "Low and high hold where all chances of the law add up to 1. A low may be below zero, though no payment is. The mean is no\n"
+        "premium: expenses, and what bad years take, come on top.",
+        "examples/poisson.txt 5:10 10:20")
+    add_sheet(parser)
+    parser.add_argument("layers", metavar="LAYER", nargs="+", type=layer, help="such as 10:20; 64 at most")
+
+
 def add_picture(commands: argparse._SubParsersAction) -> None:
     parser = subcommand(commands, "picture", draw, "A picture of the table, as SVG: lows and highs, their gaps and bounds.",
                         'examples/poisson.txt -o glass.svg --title "Broken glass"')
@@ -309,7 +372,7 @@ def arguments(words: Optional[Sequence[str]], version: Callable[[], str]) -> arg
                     epilog="\n".join(["example:", *(f"  {called(COMMAND)} {example}" for example in EXAMPLES), "", STATUS]))
     parser.add_argument("--version", action=Version, command=COMMAND, find=version)
     commands = parser.add_subparsers(metavar="COMMAND", required=True)
-    for add in add_start, add_law, add_table, add_level, add_picture:
+    for add in add_start, add_law, add_table, add_level, add_layers, add_picture:
         add(commands)
     given = parser.parse_args(words)
     wrong = given.wrong(given)

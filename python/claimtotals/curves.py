@@ -5,7 +5,7 @@ from ctypes import byref, c_size_t
 from dataclasses import dataclass
 from typing import Iterable, Iterator, NamedTuple
 
-from claimtotals import layout, library
+from claimtotals import costs, layout, library
 from claimtotals.numbers import SIGNED, UNSIGNED, places, row, whole, wholes
 from claimtotals.refusals import Refused
 
@@ -83,6 +83,8 @@ class Curve:
     '0.22992465'
     >>> chances.sure(500_000_000), chances.possible(500_000_000)
     (1, 1)
+    >>> chances.layers([(1, 3)])
+    (LayerCost(attachment=1, limit=3, low=666437022, high=666437028),)
     """
     low: tuple[int, ...]
     high: tuple[int, ...]
@@ -115,6 +117,11 @@ class Curve:
     def possible(self, level: int) -> int:
         """The smallest total that may be enough for a level: every smaller one is proved to be too small."""
         return possible(self.low, self.high, level)
+
+    def layers(self, layers: Iterable[tuple[int, int]]) -> tuple[costs.LayerCost, ...]:
+        """What layers of a stop-loss cover cost, each given by its attachment and its limit: the mean payment in a year, in billionths of a
+        money unit. The limit is the total where the layer ends, and not its width; it is the number of totals of the curve at most."""
+        return costs.layers(self.low, self.high, layers)
 
     def text(self) -> str:
         """The table as the program writes it."""

@@ -1,4 +1,4 @@
-"""How numbers are laid out: units as chances, true digits, tables. Nothing is computed here but places of digits."""
+"""How numbers are laid out: billionths as decimals, true digits, tables. Nothing is computed here but places of digits."""
 from __future__ import annotations
 
 import os
@@ -17,15 +17,15 @@ def pointed(text: str, decimal_comma: bool) -> str:
     return text.replace(".", ",") if decimal_comma else text
 
 
-def chance(units: int, decimal_comma: bool = False) -> str:
-    """Units as a decimal of nine digits, which is exact."""
+def decimal(units: int, decimal_comma: bool = False) -> str:
+    """Billionths as a decimal of nine digits, which is exact."""
     ones, rest = divmod(abs(units), UNIT)
     return pointed(f"{'-' if units < 0 else ''}{ones}.{rest:09}", decimal_comma)
 
 
 def short_chance(units: int) -> str:
-    """The same without zeros at its end."""
-    return chance(units).rstrip("0").rstrip(".")
+    """The same of a chance, without zeros at its end."""
+    return decimal(units).rstrip("0").rstrip(".")
 
 
 def common_start(first: str, second: str) -> str:
@@ -35,8 +35,8 @@ def common_start(first: str, second: str) -> str:
 
 
 def digits(low: int, high: int, decimal_comma: bool = False) -> str:
-    """The decimal digits of a chance on which its low and its high agree, cut and not rounded, so that each is true of every number between
-    them. Where they agree on none but zeros in front, it says how much the chance is at most.
+    """The decimal digits of a chance, or of what a layer costs, on which its low and its high agree, cut and not rounded, so that each is
+    true of every number between them. Where they agree on none but zeros in front, it says how much the number is at most.
 
     >>> digits(229924650, 229924652)
     '0.22992465'
@@ -46,7 +46,7 @@ def digits(low: int, high: int, decimal_comma: bool = False) -> str:
     low, high = whole("low", low, SIGNED), whole("high", high, SIGNED)
     if low > high:
         raise ValueError(f"the low {low} is above the high {high}")
-    low_text, high_text = chance(low), chance(high)
+    low_text, high_text = decimal(low), decimal(high)
     agreed = common_start(low_text, high_text)
     if low == high or agreed.strip("-0."):
         return pointed(agreed.rstrip("."), decimal_comma)
@@ -66,5 +66,5 @@ def digits_table(curve: Curve, decimal_comma: bool = False) -> str:
 def csv(curve: Curve, decimal_comma: bool = False) -> str:
     """For a spreadsheet."""
     lines = [("total", "low", "high", "bound")]
-    lines += [(str(row.total), *(chance(units, decimal_comma) for units in row[1:])) for row in curve]
+    lines += [(str(row.total), *(decimal(units, decimal_comma) for units in row[1:])) for row in curve]
     return "".join((";" if decimal_comma else ",").join(line) + "\n" for line in lines)

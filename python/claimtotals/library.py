@@ -16,6 +16,9 @@ WEIGHTS = 500
 TOTALS = 501
 WORK = 9 * TOTALS
 
+# Of a list of layers: so many places the arrays of the call have.
+LAYERS = 64
+
 # So many bytes a sheet may have.
 MOST_BYTES = 16_384
 
@@ -54,6 +57,10 @@ CALLS = {
     "claimtotals_faulty_word": (None, [BYTES, c_size_t, c_size_t, POINTER(c_size_t), POINTER(c_size_t)]),
     "claimtotals_sure": LEVEL_QUERY,
     "claimtotals_possible": LEVEL_QUERY,
+    "claimtotals_layers": (c_uint64, [
+        *row_types(c_int64), *row_types(c_int64), POINTER(c_size_t), POINTER(c_size_t), c_size_t, *row_types(c_int64), *row_types(c_int64),
+        POINTER(c_size_t),
+    ]),
     "claimtotals_version": (c_uint64, []),
 }
 
@@ -102,6 +109,6 @@ def answered(name: str, given: Sequence[int], *kinds: type) -> list[int]:
 
 
 def version() -> str:
-    """That of the library: 0.5.0."""
+    """That of the library: 0.6.0."""
     number = calls().claimtotals_version()
     return f"{number // 10_000}.{number // 100 % 100}.{number % 100}"

@@ -51,7 +51,7 @@ def refusal(text: bytes, sheet: bytes) -> Optional[Refused]:
     if first != b"REFUSED":
         return None
     number, place = map(int, numbers)
-    if REFUSALS[number].call == "sheet":
+    if "sheet" in REFUSALS[number].calls:
         return sheet_refusal(sheet, number, place)
     return curve_refusal(read_sheet(sheet).weights, number, place)
 

@@ -38,9 +38,9 @@ SEEN = {
 
 
 class Refusal(NamedTuple):
-    """A section of the table."""
+    """A section of the table; some refusals are those of several calls."""
     number: int
-    call: str
+    calls: list[str]
     name: str
     why: str
     at: str
@@ -59,7 +59,8 @@ class Refusal(NamedTuple):
 def refusal(number: int, section: configparser.SectionProxy) -> Refusal:
     words = {key: " ".join(value.split()) for key, value in section.items()}
     seen = {key[len("seen "):]: value for key, value in words.items() if key.startswith("seen ")}
-    return Refusal(number, words["call"], words["name"], words["why"], words.get("at", ""), words.get("place", ""), words["remedy"], seen)
+    return Refusal(number, words["call"].split(", "), words["name"], words["why"], words.get("at", ""), words.get("place", ""),
+                   words["remedy"], seen)
 
 
 def read_table() -> dict[int, Refusal]:
@@ -83,7 +84,7 @@ class Refused(Exception):
     """A refusal of a call. It can be pickled, so that one process can raise it in another.
 
     number      that of the refusal
-    place       its place: a line of the sheet, a term, a total or a place of the rows; 0 where it has none
+    place       its place: a line of the sheet, a term, a total, a place of the rows or a layer; 0 where it has none
     line        the place where it is a line, else None
     word        the faulty word, as bytes, where the number is 24, else None
     name        the reason's name
@@ -97,7 +98,7 @@ class Refused(Exception):
         super().__init__(number, place)  # from these it is made anew where it was pickled, and then gets its attributes back
         said = REFUSALS[number]
         self.number, self.place, self.word, self.name = number, place, word, said.name
-        self.line = place if said.call == "sheet" else None
+        self.line = place if "sheet" in said.calls else None
         self.why = said.why + more
         self.remedy = said.remedy_for(text)
         self.at = f"{said.at} {place}" if said.at else ""

@@ -5,7 +5,7 @@ from decimal import Decimal
 from fractions import Fraction
 from unittest import mock
 
-from claimtotals import (Job, Refused, Sheet, curve, digits, law_hesselager, law_panjer_willmot, possible, start_of_mean,
+from claimtotals import (Job, Refused, Sheet, curve, digits, law_hesselager, law_panjer_willmot, layers, possible, start_of_mean,
                          start_of_trials, sure)
 
 # The paper's P2, with the weight 1.
@@ -58,6 +58,10 @@ def takers():
         yield "low[1]", "signed", lambda number, query=query: query([0, number], [0, 3], 3)
         yield "high[0]", "signed", lambda number, query=query: query([0, 3], [number, 3], 3)
         yield "level", "signed", lambda number, query=query: query([3], [3], number)
+    yield "low[1]", "signed", lambda number: layers([0, number], [0, 3], [(0, 1)])
+    yield "high[0]", "signed", lambda number: layers([0, 3], [number, 3], [(0, 1)])
+    yield "layers[0][0]", "unsigned", lambda number: layers([3], [3], [(number, 1)])
+    yield "layers[1][1]", "unsigned", lambda number: layers([3], [3], [(0, 1), (0, number)])
     yield "low", "signed", lambda number: digits(number, 5)
     yield "high", "signed", lambda number: digits(-5, number)
     yield "divisor", "unsigned", lambda number: Job.of(number, [(0, 1)], (1, 1), 1)
@@ -122,6 +126,12 @@ class NoCall(unittest.TestCase):
             with self.subTest(start):
                 self.check("start", Job.of, 1, [(0, 1)], start, 1)
 
+    def test_numbers_of_a_layer(self):
+        for layer in (), (1,), (0, 1, 2), (0, 1, 5, 5):
+            with self.subTest(layer):
+                self.check("layers[1]", layers, [1], [1], [(0, 1), layer])
+        self.check("layers[0]", layers, [1], [1], (0, 1))
+
     def test_no_rows(self):
         """Texts and numbers; sets, which have no order; and dicts, of which the keys alone would be seen."""
         for given in 5, None, "11", b"11", bytearray(b"11"), {1, 2}, frozenset((1, 2)), {1: 1, 2: 1}, {1: 1, 2: 1}.keys(), 1.5:
@@ -132,6 +142,10 @@ class NoCall(unittest.TestCase):
                 for query in sure, possible:
                     self.check("low", query, given, [1, 1], 1)
                     self.check("high", query, [1, 1], given, 1)
+                self.check("low", layers, given, [1, 1], [(0, 1)])
+                self.check("high", layers, [1, 1], given, [(0, 1)])
+                self.check("layers", layers, [1, 1], [1, 1], given)
+                self.check("layers[0]", layers, [1, 1], [1, 1], [given])
                 self.check("terms", Job.of, 1, given, (1, 1), 1)
                 self.check("terms[0]", Job.of, 1, [given], (1, 1), 1)
                 self.check("start", Job.of, 1, [(0, 1)], given, 1)
@@ -140,6 +154,7 @@ class NoCall(unittest.TestCase):
         self.check("weights[0]", curve, JOB, [[1, 1]])
         self.check("weights[0]", curve, JOB, [[1] * 100_000])
         self.check("low[0]", sure, [[1]], [[1]], 1)
+        self.check("layers[0][1]", layers, [1], [1], [(0, [1])])
 
 
 class Taken(unittest.TestCase):
@@ -157,6 +172,9 @@ class Taken(unittest.TestCase):
                 self.assertIs(type(found[three].total), int)
                 self.assertEqual(sure([one, three], [three, three], three), 1)
                 self.assertEqual(possible([one, three], [three, three], three), 0)
+                cost, = layers([one, three], [three, three], [(Whole(0), one)])
+                self.assertEqual(cost, (0, 1, 999999997, 999999999))
+                self.assertEqual({type(number) for number in cost}, {int})
                 self.assertEqual(digits(one, three), "at most 0.000000003")
                 self.assertEqual(start_of_mean(three, three), (367879441, 367879442))
                 self.assertEqual(start_of_trials(one, three, one), (666666666, 666666667))
@@ -170,7 +188,9 @@ class Taken(unittest.TestCase):
                 (1, lambda: curve(JOB._replace(order=2 ** 64 - 1), [1])), (3, lambda: curve(with_term("a", 0, 2 ** 63 - 1), [1])),
                 (3, lambda: curve(with_term("b", 0, -2 ** 63), [1])), (6, lambda: curve(JOB, [2 ** 64 - 1])),
                 (32, lambda: sure([1], [1], 2 ** 63 - 1)), (32, lambda: possible([1], [1], -2 ** 63)),
-                (33, lambda: possible([-2 ** 63], [2 ** 63 - 1], 1)), (41, lambda: start_of_mean(2 ** 64 - 1)),
+                (33, lambda: possible([-2 ** 63], [2 ** 63 - 1], 1)), (33, lambda: layers([-2 ** 63], [2 ** 63 - 1], [(0, 1)])),
+                (62, lambda: layers([1], [1], [(2 ** 64 - 1, 1)])), (63, lambda: layers([1], [1], [(0, 2 ** 64 - 1)])),
+                (41, lambda: start_of_mean(2 ** 64 - 1)),
                 (41, lambda: start_of_mean(1, 2 ** 64 - 1)), (41, lambda: start_of_trials(0, 2 ** 64 - 1, 1)),
                 (42, lambda: start_of_trials(2 ** 64 - 1, 1, 1)), (43, lambda: start_of_trials(0, 1, 2 ** 64 - 1)),
                 (51, lambda: law_panjer_willmot(2 ** 63 - 1, 1, 1, 0)), (51, lambda: law_hesselager(-2 ** 63, 1, 1, 0)),

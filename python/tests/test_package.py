@@ -9,7 +9,7 @@ import typing
 import unittest
 
 import claimtotals
-from claimtotals import (Job, Refused, curve, law_hesselager, law_panjer_willmot, library, possible, read_sheet, start_of_mean,
+from claimtotals import (Job, Refused, curve, law_hesselager, law_panjer_willmot, layers, library, possible, read_sheet, start_of_mean,
                          start_of_trials, sure)
 
 # All but `__main__`, which is the command itself and would run.
@@ -27,8 +27,8 @@ def load_tests(_, tests, pattern):
 class Names(unittest.TestCase):
     def test_all(self):
         self.assertEqual(set(claimtotals.__all__), {
-            "MOST_BYTES", "UNIT", "Curve", "Job", "Law", "Refused", "Row", "Sheet", "Start", "curve", "digits", "law_hesselager",
-            "law_panjer_willmot", "possible", "read_sheet", "start_of_mean", "start_of_trials", "sure"})
+            "MOST_BYTES", "UNIT", "Curve", "Job", "Law", "LayerCost", "Refused", "Row", "Sheet", "Start", "curve", "digits",
+            "law_hesselager", "law_panjer_willmot", "layers", "possible", "read_sheet", "start_of_mean", "start_of_trials", "sure"})
         for name in claimtotals.__all__:
             self.assertTrue(hasattr(claimtotals, name), name)
 
@@ -38,7 +38,8 @@ class Names(unittest.TestCase):
     def test_examples(self):
         """There are some in the comments."""
         names = [module.__name__ for module in MODULES if any(test.examples for test in doctest.DocTestFinder().find(module))]
-        some = {"claimtotals.curves", "claimtotals.laws", "claimtotals.layout", "claimtotals.sheets", "claimtotals.starts"}
+        some = {"claimtotals.costs", "claimtotals.curves", "claimtotals.laws", "claimtotals.layout", "claimtotals.sheets",
+                "claimtotals.starts"}
         self.assertLessEqual(some, set(names))
 
     def test_version(self):
@@ -71,7 +72,7 @@ class Types(unittest.TestCase):
     def test_functions(self):
         """Each parameter has a type that can be looked up, and so has what is returned."""
         some = {"curve", "read_sheet", "start_of_mean", "law_hesselager", "Job.of", "Sheet.text", "Sheet.curve", "Start.line", "Law.lines",
-                "Curve.sure", "Curve.possible", "Curve.__getitem__", "Row.digits"}
+                "Curve.sure", "Curve.possible", "Curve.layers", "Curve.__getitem__", "Row.digits", "layers", "LayerCost.digits"}
         self.assertLessEqual(some, set(dict(functions())))
         for name, function in functions():
             with self.subTest(name):
@@ -79,7 +80,7 @@ class Types(unittest.TestCase):
                 self.assertEqual(set(typing.get_type_hints(function)), {*parameters, "return"})
 
     def test_fields(self):
-        for kind in claimtotals.Job, claimtotals.Sheet, claimtotals.Row, claimtotals.Start, claimtotals.Law:
+        for kind in claimtotals.Job, claimtotals.Sheet, claimtotals.Row, claimtotals.Start, claimtotals.Law, claimtotals.LayerCost:
             self.assertEqual(tuple(typing.get_type_hints(kind)), kind._fields)
         self.assertEqual(set(typing.get_type_hints(claimtotals.Law.terms.fget)), {"return"})
         self.assertEqual(tuple(typing.get_type_hints(claimtotals.Curve)), ("low", "high", "bound"))
@@ -117,6 +118,12 @@ def level(total):
     return sure(low, high, 1), possible(low, high, 1)
 
 
+def costs(number):
+    """Of layers that pay whole every year."""
+    row = [0] * number
+    return [cost[2:] for cost in layers(row, row, [(0, number), (number - 1, number)] * 32)]
+
+
 def starts(number):
     """Of no trial that can bring a claim, and of a mean of 1."""
     return start_of_trials(0, number, number), start_of_mean(number, number)
@@ -137,6 +144,7 @@ class Threads(unittest.TestCase):
         row = (250000000, 500000000, 250000000, 0, 0)
         asked = {binomial: lambda divisor: (row, row, (0, 1, 2, 1, 2) if divisor > 1 else (0, 0, 1, 1, 2)),
                  sheet: lambda number: (number, 7), word: lambda number: b"%dx" % number, level: lambda number: (number, 0),
+                 costs: lambda number: [(number * 10 ** 9,) * 2, (10 ** 9,) * 2] * 32,
                  starts: lambda _: ((10 ** 9, 10 ** 9), (367879441, 367879442)),
                  laws: lambda number: ((number, 1, 2), (number, -1, -3))}
         calls = [(call, 1 + count % 300) for count in range(1200) for call in asked]

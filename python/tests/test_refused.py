@@ -3,7 +3,7 @@ import copy
 import pickle
 import unittest
 
-from claimtotals import (UNIT, Job, Refused, curve, law_hesselager, law_panjer_willmot, possible, read_sheet, start_of_mean,
+from claimtotals import (UNIT, Job, Refused, curve, law_hesselager, law_panjer_willmot, layers, possible, read_sheet, start_of_mean,
                          start_of_trials, sure)
 
 # The paper's P1 as a sheet and P2 as a job.
@@ -39,6 +39,9 @@ CASES = {
     51: ("Constant", 0, "", lambda: law_panjer_willmot(1, 1, 2, 2)),
     52: ("Coefficient", 0, "", lambda: law_hesselager(0, 0, 13, -1)),
     53: ("Limits", 0, "", lambda: law_panjer_willmot(0, 9, 1000, -1)),
+    61: ("Count", 0, "", lambda: layers([1], [1], [])),
+    62: ("Attachment", 1, "layer", lambda: layers([1], [1], [(0, 1), (1, 1)])),
+    63: ("Limit", 1, "layer", lambda: layers([1], [1], [(0, 1), (0, 2)])),
 }
 
 
@@ -73,6 +76,11 @@ class Attributes(unittest.TestCase):
                 self.assertEqual(refusal.sentence, f"{counted}refused by {number}: {refusal.why}{word}. {refusal.remedy}")
                 self.assertEqual(str(refusal), refusal.sentence)
 
+    def test_of_two_calls(self):
+        """31 and 33 are told by another call in the same words."""
+        for number, call in (31, lambda: layers([], [], [])), (33, lambda: layers([1, 2], [1, 1], [])):
+            self.assertEqual(raised(call).sentence, raised(CASES[number][3]).sentence)
+
     def test_words(self):
         """Each has its own, that read on in a sentence."""
         refusals = [raised(call) for _, _, _, call in CASES.values()]
@@ -88,13 +96,13 @@ class Attributes(unittest.TestCase):
 
     def test_source(self):
         """With the name of a file."""
-        for number, between in (24, ", line 6: "), (21, ": "), (9, ", total 1: "), (41, ": "), (51, ": "):
+        for number, between in (24, ", line 6: "), (21, ": "), (9, ", total 1: "), (41, ": "), (51, ": "), (63, ", layer 1: "):
             refusal = raised(CASES[number][3])
             self.assertTrue(refusal.of("a.txt").startswith(f"a.txt{between}refused by {number}: "), refusal.of("a.txt"))
 
     def test_copies(self):
         """As where it is raised in another process."""
-        for number in 6, 23, 24, 33, 41, 51:
+        for number in 6, 23, 24, 33, 41, 51, 62, 63:
             refusal = raised(CASES[number][3])
             for other in pickle.loads(pickle.dumps(refusal)), copy.copy(refusal):
                 with self.subTest(number):
