@@ -30,6 +30,15 @@ saving-left c d x = by-total (λ s. s ≤ d - x) c d x (λ h. omega arith) (λ h
 pub saving-none : (c d x : ℕ) → d ≤ x → saving c d x ≡ 0
 saving-none c d x le = omega (arith, saving-left c d x)
 
+-- in one case: what the total leaves to the limit, less what it leaves to the attachment
+saving-is : (c d x : ℕ) → saving c d x ≡ (d - x) - (c - x)
+unfolding saving
+saving-is c d x = by-total (λ s. s ≡ (d - x) - (c - x)) c d x (λ h. omega arith) (λ h k. omega arith) (λ h k. omega arith)
+
+-- so layers that follow each other save together what the one from c to e saves
+pub saving-adds : (c d e x : ℕ) → c ≤ d → d ≤ e → saving c d x + saving d e x ≡ saving c e x
+saving-adds c d e x h k = rw (saving-is c d x, saving-is d e x, saving-is c e x) (omega arith)
+
 -- what is paid and what is saved are d - c together
 pub paid-saved : (c d x : ℕ) → payment c d x + saving c d x ≡ d - c
 unfolding payment

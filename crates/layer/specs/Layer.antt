@@ -3,9 +3,9 @@
 use mathlib.Core.Path.{_≡_}
 use mathlib.Core.Bool.{cond}
 use mathlib.Core.List.{List}
-use Prim.Native.Nat.{ℕ, _*_, _-_, _<_, min}
+use Prim.Native.Nat.{ℕ, _*_, _-_, _≤_, _<_, min}
 use lib.Dec.{ltb}
-use lib.IntN.{ℤ, pos, _-ℤ_, _*ℤ_}
+use lib.IntN.{ℤ, pos, _+ℤ_, _-ℤ_, _*ℤ_}
 use lib.ListN.{getD}
 use Rattle.algebra.specs.Sum.{sumℤ}
 use Rattle.model.specs.Limits.{unit}
@@ -25,3 +25,7 @@ PaysAbove = (c d x : ℕ) → c < d → payment c d x ≡ min x d - min x c
 -- "(d - c) times U less the sum of saving times" entry "over x below d"
 unfoldable pub costBy : List ℤ → (c d : ℕ) → ℤ
 costBy row c d = pos ((d - c) * unit) -ℤ sumℤ d (λ x. pos (saving c d x) *ℤ getD row x (pos 0))
+
+-- layers that follow each other add up
+abbrev pub LayersAddUp : Type 0
+LayersAddUp = (row : List ℤ) (c d e : ℕ) → c ≤ d → d ≤ e → costBy row c d +ℤ costBy row d e ≡ costBy row c e
