@@ -42,12 +42,12 @@ static const Version versions[VERSIONS] = {{"proved", call_proved}, {"plain", ca
 
 // ---- what is asked
 
-static void make_rows(size_t length) {
+static void make_rows(void) {
     for (size_t x = 0; x <= PLACES; x++) {
         low[x] = x % 2 ? 4000000 : -500;
         high[x] = low[x] + 1000 * (int64_t)(x % 3);
     }
-    low_length = high_length = length;
+    low_length = high_length = PLACES;
 }
 
 static void set_layer(size_t i, size_t attachment, size_t limit) {
@@ -86,7 +86,7 @@ enum { LISTS = sizeof lists / sizeof *lists };
 static bool make_list(const char *name) {
     for (size_t l = 0; l < LISTS; l++) {
         if (strcmp(name, lists[l].name) != 0) continue;
-        make_rows(PLACES);
+        make_rows();
         lists[l].make();
         return true;
     }
@@ -231,7 +231,8 @@ static void draw_layers(void) {
     }
     for (size_t faults = draw(3); faults > 0; faults--) {
         size_t i = draw(LAYERS);
-        set_layer(i, draw(2) ? limits[i] : draw(PLACES + 2), draw(2) ? limits[i] : low_length + draw(3));
+        if (draw(2)) limits[i] = low_length + draw(3);
+        attachments[i] = draw(2) ? limits[i] : draw(PLACES + 2);
     }
     count = draw(LAYERS + 2);
     answer_low_length = draw(10) ? count : draw(ROOM);
