@@ -19,4 +19,8 @@ uint64_t plain_sure(const int64_t *low, size_t low_length, const int64_t *high, 
 uint64_t plain_possible(const int64_t *low, size_t low_length, const int64_t *high, size_t high_length, int64_t level, size_t *place,
                         size_t *total);
 
+uint64_t plain_layers(const int64_t *low, size_t low_length, const int64_t *high, size_t high_length, const size_t attachments[64],
+                      const size_t limits[64], size_t count, int64_t *answer_low, size_t answer_low_length, int64_t *answer_high,
+                      size_t answer_high_length, size_t *place);
+
 #endif
