@@ -1,5 +1,5 @@
--- Layers that follow each other save together what the layer over both saves, and the first saves nothing from its limit on, so that its sum
--- may go on to the limit of the second.
+-- Layers that follow each other save together what the layer over both saves, and the first saves nothing from its limit on, so that its
+-- sum may go on to the limit of the second.
 use mathlib.Core.Path.{_≡_, sym, _∙_, ap, ap₂}
 use mathlib.Core.List.{List, [], _∷_}
 use Prim.Native.Nat.{ℕ, _+_, _*_, _-_, _≤_}

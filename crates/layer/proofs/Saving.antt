@@ -1,5 +1,5 @@
 -- Savings and payments of one layer, by where the total lies.
-use mathlib.Core.Path.{_≡_, refl}
+use mathlib.Core.Path.{_≡_, refl, _∙_}
 use mathlib.Core.Bool.{Bool, true, false, cond}
 use Prim.Native.Nat.{ℕ, _+_, _-_, _≤_, _<_, min}
 use native.Mathlib.Omega.{arith}
@@ -35,7 +35,14 @@ saving-is : (c d x : ℕ) → saving c d x ≡ (d - x) - (c - x)
 unfolding saving
 saving-is c d x = by-total (λ s. s ≡ (d - x) - (c - x)) c d x (λ h. omega arith) (λ h k. omega arith) (λ h k. omega arith)
 
--- so layers that follow each other save together what the one from c to e saves
+-- so it is d - c below c, and d - x from there to d
+pub saving-below : (c d x : ℕ) → x < c → saving c d x ≡ d - c
+saving-below c d x l = saving-is c d x ∙ omega arith
+
+pub saving-from : (c d x : ℕ) → c ≤ x → saving c d x ≡ d - x
+saving-from c d x l = saving-is c d x ∙ omega arith
+
+-- and layers that follow each other save together what the one from c to e saves
 pub saving-adds : (c d e x : ℕ) → c ≤ d → d ≤ e → saving c d x + saving d e x ≡ saving c e x
 saving-adds c d e x h k = rw (saving-is c d x, saving-is d e x, saving-is c e x) (omega arith)
 

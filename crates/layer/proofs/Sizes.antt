@@ -1,6 +1,6 @@
 -- The numbers on the way to a layer's cost are small. At total x an entry, from -2U to 2U, is multiplied by d - x at most, and d is 501 at
 -- most: the checker adds up the 501 products.
-use mathlib.Core.Path.{_≡_, refl}
+use mathlib.Core.Path.{_≡_, refl, sym, _∙_, ap}
 use mathlib.Core.List.{List}
 use Prim.Native.Nat.{ℕ, _*_, _-_, _≤_, _<_}
 use native.Mathlib.Nat as NL
@@ -10,13 +10,15 @@ use lib.ListN.{length, getD}
 use mir.Syntax.{w64}
 use mir.Val.{SFits}
 use Rattle.algebra.specs.Sum.{accumulate, sumℕ, sumℤ}
+use Rattle.algebra.proofs.Integer.{integers}
 use Rattle.algebra.proofs.Natural.{sumℕ-longer}
 use Rattle.algebra.proofs.Size.{size-sub, size-mul-le, size-sum, size-fits}
+use Rattle.algebra.proofs.Sum.{sum-cong, sum-scale}
 use Rattle.model.specs.Limits.{unit, mostTotals}
 use Rattle.intervals.specs.Checks.{Summable}
 use Rattle.layer.specs.Layer.{saving, costBy}
 use Rattle.layer.specs.Room.{Fitting}
-use Rattle.layer.proofs.Saving.{saving-left}
+use Rattle.layer.proofs.Saving.{saving-left, saving-below}
 
 -- the largest product at total x
 abbrev largest : ℕ → ℕ
@@ -33,6 +35,12 @@ module _ (row : List ℤ) (c d : ℕ) where
   -- the sum of saving times entry below total n
   abbrev pub sumBefore : ℕ → ℤ
   sumBefore n = sumℤ n product
+
+  -- below the attachment it is the width times the sum of the entries
+  pub before-attachment : pos (d - c) *ℤ sumℤ c (λ x. getD row x (pos 0)) ≡ sumBefore c
+  before-attachment =
+      sum-scale (integers .semiring) c (pos (d - c)) (λ x. getD row x (pos 0))
+      ∙ sum-cong (integers .semiring) c (λ x l. ap (λ (n : ℕ). pos n *ℤ getD row x (pos 0)) (sym (saving-below c d x l)))
 
   module _ (small : Summable row) (fit : Fitting (length row) c d) where
     product-small : (x : ℕ) → x < d → natAbs (product x) ≤ largest x

@@ -3,38 +3,40 @@
 use super::LayerList;
 use model::limits::UNIT;
 ghost use mathlib.Core.Path.{_≡_};
-ghost use Prim.Native.Nat.{_<_};
+ghost use Prim.Native.Nat.{_≤_};
 ghost use lib.IntN.{pos};
-ghost use lib.ListN.{length};
+ghost use lib.ListN.{length, getD};
 ghost use Rattle.algebra.specs.Slice.{written};
-ghost use Rattle.model.specs.Limits.{mostTotals};
+ghost use Rattle.algebra.specs.Sum.{sumℤ};
 ghost use Rattle.intervals.specs.Checks.{Summable};
-ghost use Rattle.layer.specs.Layer.{saving, costBy};
+ghost use Rattle.layer.specs.Layer.{costBy};
 ghost use Rattle.layer.specs.Call.{costsBy};
 ghost use Rattle.layer.specs.Room.{Fitting, Writable};
 
-// What the layer saves at a total below its limit.
-fn saving_at(attachment: usize, limit: usize, x: usize) -> i64
-    requires { ⌜ (x < limit) × Fitting mostTotals attachment limit ⌝ }
-    ensures { λ r. ⌜ r ≡ pos (saving attachment limit x) ⌝ }
+// The sum of a row's entries below a total.
+fn sum_below(row: &[i64], total: usize) -> i64
+    requires { ⌜ Summable (now row) × (total ≤ length (now row)) ⌝ }
+    ensures { λ r. ⌜ r ≡ sumℤ total (λ x. getD (now (row .entry)) x (pos 0)) ⌝ }
 {
-    if x < attachment {
-        (limit - attachment) as i64
-    } else {
-        (limit - x) as i64
+    let mut sum: i64 = 0;
+    for x in 0..total {
+        sum += row[x];
     }
+    sum
 }
 
-// Its width times U less the sum of saving times entry.
+// Its width times U less the sum of saving times entry. Below the attachment a layer saves its width, and from there on what the total
+// leaves to the limit.
 fn cost(row: &[i64], attachment: usize, limit: usize) -> i64
     requires { ⌜ Summable (now row) × Fitting (length (now row)) attachment limit ⌝ }
     ensures { λ r. ⌜ r ≡ costBy (now (row .entry)) attachment limit ⌝ }
 {
-    let mut sum: i64 = 0;
-    for x in 0..limit {
-        sum += saving_at(attachment, limit, x) * row[x];
+    let width = (limit - attachment) as i64;
+    let mut saved: i64 = width * sum_below(row, attachment);
+    for x in attachment..limit {
+        saved += (limit - x) as i64 * row[x];
     }
-    (limit - attachment) as i64 * UNIT - sum
+    width * UNIT - saved
 }
 
 // The costs of all layers over the first places of an answer row.
