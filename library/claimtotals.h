@@ -227,9 +227,9 @@ uint64_t claimtotals_possible(const int64_t *low, size_t low_length, const int64
    33   a low or a high lies outside -2U to 2U, or the low is above the high; the place is the first such
    61   the list of layers is empty, longer than 64, or longer than a row for the answers
    Then layer by layer, in this order for a layer:
-   62   a layer's attachment is not below its limit; the place is the first layer with this fault or the next, counted from 0
-   63   a layer's limit is above X+1, where X is the last total of the rows; the place is the first layer with a fault, and 62 comes first
-        there
+   62   a layer's attachment is not below its limit; the place is the first layer at fault by 62 or 63, counted from 0
+   63   a layer's limit is above X+1, where X is the last total of the rows; the place is the first layer at fault by 62 or 63, counted from
+        0, and of one layer 62 is told first
 
    At each total a layer saves d - c less what it pays. Its high is (d - c) times U less the sum of saving times low over all totals below
    d, and its low is the same with the highs.

@@ -189,18 +189,19 @@ def decimal(units):
     return f"{'-' if units < 0 else ''}{abs(units) // UNIT}.{abs(units) % UNIT:09}"
 
 
-def sums_line(command, file, sheet):
-    """A pattern for what is said of an accepted sheet: nothing, or that its chances do not add up to 1, and what to look at."""
+def sums_line(command, file, sheet, rest="make LAST larger to see them"):
+    """A pattern for what is said of an accepted sheet: nothing, or that its chances do not add up to 1, and what to look at; of what is
+    missing these words."""
     low, high = (sum(row[column] for row in rows(sheet)) for column in (1, 2))
     if high >= UNIT // 1000 * 999 and low <= UNIT // 1000 * 1001:
         return ""
     head = f"{command}: {file}: the chances of this table add up to between {decimal(low)} and {decimal(high)}, "
-    named = ["START", "law"] if low > UNIT else ["LAST", "START", "law"]
+    named = ["START", "law"] if low > UNIT else [rest, "START", "law"]
     return re.escape(head) + "".join(f"(?=.*{word})" for word in named) + r".+\.\n"
 
 
 def excess_line(command, file, sheet):
-    """The same where they add up to more than 1, which is said with levels, layers and pictures too."""
+    """The same where they add up to more than 1, which is said with levels and pictures too."""
     return sums_line(command, file, sheet) if sum(row[1] for row in rows(sheet)) > UNIT else ""
 
 

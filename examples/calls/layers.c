@@ -38,7 +38,7 @@ struct layers {
     int64_t low[CLAIMTOTALS_LAYERS], high[CLAIMTOTALS_LAYERS];
 };
 
-/* A number in the form of a sheet's, with this letter behind it, if it fits 64 bits; gives what comes then, or NULL. */
+/* A number in the form of a sheet's, with this character behind it, if it fits 64 bits; gives what comes then, or NULL. */
 static const char *read_number(const char *word, char end, size_t *number) {
     if (word[0] == end || (word[0] == '0' && word[1] != end)) return NULL;
     *number = 0;

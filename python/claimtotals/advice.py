@@ -21,9 +21,19 @@ def about_excess(low: Sequence[int], high: Sequence[int]) -> Optional[str]:
     return f"{sums(low, high)}, more than 1. Look at START, the chance of no claims in billionths, and at the law."
 
 
-def about_sums(low: Sequence[int], high: Sequence[int]) -> Optional[str]:
-    """The same, also where they add up to less."""
+def about_rest(low: Sequence[int], high: Sequence[int], rest: str) -> Optional[str]:
+    """The same, also where they add up to less, with what the rest is."""
     if sum(high) >= UNIT - SLACK:
         return about_excess(low, high)
-    return (f"{sums(low, high)}, not to 1. The rest is the chance of totals above the last, if there are such: make LAST larger to see"
-            " them; else look at START and at the law.")
+    return f"{sums(low, high)}, not to 1. {rest}; else look at START and at the law."
+
+
+def about_sums(low: Sequence[int], high: Sequence[int]) -> Optional[str]:
+    """What is said of a table."""
+    return about_rest(low, high, "The rest is the chance of totals above the last, if there are such: make LAST larger to see them")
+
+
+def about_layers(low: Sequence[int], high: Sequence[int]) -> Optional[str]:
+    """What is said of a table whose layers are priced: a slip in START would not show in their prices."""
+    return about_rest(low, high, "The rest counts as totals above the last, which pay every layer whole: make LAST larger to see whether they"
+                      " are there")

@@ -6,7 +6,7 @@ import re
 from typing import Callable, NamedTuple, Optional, Sequence, Union
 
 from claimtotals import layout, library, streams
-from claimtotals.advice import about_excess, about_sums
+from claimtotals.advice import about_excess, about_layers, about_sums
 from claimtotals.costs import LayerCost
 from claimtotals.curves import Curve
 from claimtotals.laws import law_hesselager, law_panjer_willmot
@@ -236,7 +236,7 @@ def layers(given: argparse.Namespace) -> int:
     costs = layer_costs(curve, given.layers)
     lines = [layer_line(layer.text, cost.low, cost.high) for layer, cost in zip(given.layers, costs)]
     streams.write_output("".join([*lines, f"{MEANING}\n"]).encode())
-    remark(given.sheet, about_excess(curve.low, curve.high))
+    remark(given.sheet, about_layers(curve.low, curve.high))
     return streams.SUCCESS
 
 

@@ -26,9 +26,9 @@ class LayerCost(NamedTuple):
         return layout.digits(self.low, self.high, decimal_comma)
 
 
-def checked(name: str, layer: Iterable[int]) -> tuple[int, ...]:
+def checked(name: str, pair: Iterable[int]) -> tuple[int, ...]:
     """A pair of numbers that fit the call, the attachment and the limit."""
-    numbers = wholes(name, layer)
+    numbers = wholes(name, pair)
     if len(numbers) != 2:
         raise ValueError(f"{name}: two numbers, the attachment and the limit, not {numbers!r:.200}")
     return numbers
@@ -39,17 +39,19 @@ def array(numbers: Sequence[int]) -> ctypes.Array:
     return (ctypes.c_size_t * library.LAYERS)(*numbers[:library.LAYERS])
 
 
-def layers_refusal(pairs: Sequence[tuple[int, ...]], last: int, number: int, place: int) -> Refused:
+def layers_refusal(asked: Sequence[tuple[int, ...]], last: int, number: int, place: int) -> Refused:
     """What is said of the call's refusal of these layers, on rows with this last total."""
     more = ""
+    if number == 61:
+        more = f"; it has {len(asked)}"
     if number in (62, 63):
-        more = "; it goes from {} to {}".format(*pairs[place])
+        more = "; it goes from {} to {}".format(*asked[place])
     if number == 63:
         more += f", and X is {last}"
     return Refused(number, place, more=more)
 
 
-def layers(low: Iterable[int], high: Iterable[int], layers: Iterable[tuple[int, int]]) -> tuple[LayerCost, ...]:
+def layers(low: Iterable[int], high: Iterable[int], pairs: Iterable[tuple[int, int]]) -> tuple[LayerCost, ...]:
     """What layers cost, on rows of any lows and highs: for each pair of an attachment and a limit the layer with its mean payment. At a
     total x a layer pays nothing up to its attachment, what x has above it from there to the limit, and the whole from the limit on.
 
@@ -63,13 +65,13 @@ def layers(low: Iterable[int], high: Iterable[int], layers: Iterable[tuple[int, 
     (LayerCost(attachment=0, limit=1, low=500000000, high=500000000), LayerCost(attachment=1, limit=2, low=249999999, high=250000000))
     """
     lows, highs = row(wholes("low", low, SIGNED), SIGNED), row(wholes("high", high, SIGNED), SIGNED)
-    pairs = [checked(f"layers[{place}]", layer) for place, layer in enumerate(places("layers", layers))]
-    attachments, limits = ([pair[i] for pair in pairs] for i in (0, 1))
+    asked = [checked(f"pairs[{place}]", pair) for place, pair in enumerate(places("pairs", pairs))]
+    attachments, limits = ([layer[i] for layer in asked] for i in (0, 1))
     answer_low, answer_high = ((SIGNED * library.LAYERS)() for _ in range(2))
     place = ctypes.c_size_t()
     number = library.calls().claimtotals_layers(
-        lows, len(lows), highs, len(highs), array(attachments), array(limits), len(pairs), answer_low, len(answer_low), answer_high,
+        lows, len(lows), highs, len(highs), array(attachments), array(limits), len(asked), answer_low, len(answer_low), answer_high,
         len(answer_high), ctypes.byref(place))
     if number:
-        raise layers_refusal(pairs, len(lows) - 1, number, place.value)
+        raise layers_refusal(asked, len(lows) - 1, number, place.value)
     return tuple(map(LayerCost, attachments, limits, answer_low, answer_high))

@@ -118,10 +118,10 @@ class Curve:
         """The smallest total that may be enough for a level: every smaller one is proved to be too small."""
         return possible(self.low, self.high, level)
 
-    def layers(self, layers: Iterable[tuple[int, int]]) -> tuple[costs.LayerCost, ...]:
+    def layers(self, pairs: Iterable[tuple[int, int]]) -> tuple[costs.LayerCost, ...]:
         """What layers of a stop-loss cover cost, each given by its attachment and its limit: the mean payment in a year, in billionths of a
         money unit. The limit is the total where the layer ends, and not its width; it is the number of totals of the curve at most."""
-        return costs.layers(self.low, self.high, layers)
+        return costs.layers(self.low, self.high, pairs)
 
     def text(self) -> str:
         """The table as the program writes it."""

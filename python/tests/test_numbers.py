@@ -60,8 +60,8 @@ def takers():
         yield "level", "signed", lambda number, query=query: query([3], [3], number)
     yield "low[1]", "signed", lambda number: layers([0, number], [0, 3], [(0, 1)])
     yield "high[0]", "signed", lambda number: layers([0, 3], [number, 3], [(0, 1)])
-    yield "layers[0][0]", "unsigned", lambda number: layers([3], [3], [(number, 1)])
-    yield "layers[1][1]", "unsigned", lambda number: layers([3], [3], [(0, 1), (0, number)])
+    yield "pairs[0][0]", "unsigned", lambda number: layers([3], [3], [(number, 1)])
+    yield "pairs[1][1]", "unsigned", lambda number: layers([3], [3], [(0, 1), (0, number)])
     yield "low", "signed", lambda number: digits(number, 5)
     yield "high", "signed", lambda number: digits(-5, number)
     yield "divisor", "unsigned", lambda number: Job.of(number, [(0, 1)], (1, 1), 1)
@@ -129,8 +129,8 @@ class NoCall(unittest.TestCase):
     def test_numbers_of_a_layer(self):
         for layer in (), (1,), (0, 1, 2), (0, 1, 5, 5):
             with self.subTest(layer):
-                self.check("layers[1]", layers, [1], [1], [(0, 1), layer])
-        self.check("layers[0]", layers, [1], [1], (0, 1))
+                self.check("pairs[1]", layers, [1], [1], [(0, 1), layer])
+        self.check("pairs[0]", layers, [1], [1], (0, 1))
 
     def test_no_rows(self):
         """Texts and numbers; sets, which have no order; and dicts, of which the keys alone would be seen."""
@@ -145,7 +145,7 @@ class NoCall(unittest.TestCase):
                 self.check("low", layers, given, [1, 1], [(0, 1)])
                 self.check("high", layers, [1, 1], given, [(0, 1)])
                 self.check("layers", layers, [1, 1], [1, 1], given)
-                self.check("layers[0]", layers, [1, 1], [1, 1], [given])
+                self.check("pairs[0]", layers, [1, 1], [1, 1], [given])
                 self.check("terms", Job.of, 1, given, (1, 1), 1)
                 self.check("terms[0]", Job.of, 1, [given], (1, 1), 1)
                 self.check("start", Job.of, 1, [(0, 1)], given, 1)
@@ -154,7 +154,7 @@ class NoCall(unittest.TestCase):
         self.check("weights[0]", curve, JOB, [[1, 1]])
         self.check("weights[0]", curve, JOB, [[1] * 100_000])
         self.check("low[0]", sure, [[1]], [[1]], 1)
-        self.check("layers[0][1]", layers, [1], [1], [(0, [1])])
+        self.check("pairs[0][1]", layers, [1], [1], [(0, [1])])
 
 
 class Taken(unittest.TestCase):

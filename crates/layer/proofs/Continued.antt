@@ -67,5 +67,5 @@ pub always-continues : AlwaysContinues
 always-continues amount d = record {
   enough = omega (arith, one-more amount d);
   sums-to = sums-to amount d;
-  begins = λ x l. eq-of-value (ap value (at-first amount d x l));
+  begins = λ x l. eq-of-value (ap value (at-first amount d x (omega arith)));
 }

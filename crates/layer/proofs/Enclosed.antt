@@ -66,10 +66,12 @@ layer-in-order low high list answerLow answerHigh ok i l =
 pub layer-small : LayerSmall
 layer-small low high list answerLow answerHigh ok i l =
     let passes = passed low high list answerLow answerHigh ok in
-    let fit = passes .fitting i l in (
+    let fit = passes .fitting i l in
+    let c = attachment list i in
+    let d = limit list i in (
       rw (low-is low high list answerLow answerHigh ok i l)
-          (cost-small high _ _ (passes .rows .high-summable) (rw (sym (passes .rows .same)) fit)),
-      rw (high-is low high list answerLow answerHigh ok i l) (cost-small low _ _ (passes .rows .low-summable) fit),
+          (omega (arith, cost-small high c d (passes .rows .high-summable) (rw (sym (passes .rows .same)) fit))),
+      rw (high-is low high list answerLow answerHigh ok i l) (omega (arith, cost-small low c d (passes .rows .low-summable) fit)),
     )
 
 -- ---- amounts that go on
@@ -85,6 +87,6 @@ encloses-continued low high amount inside list answerLow answerHigh ok i l g con
     encloses-layer low high list answerLow answerHigh ok i l g (record {
       enough = continues .enough;
       sums-to = continues .sums-to;
-      above-low = λ x k. ≼-trans (inside x (omega (arith, below)) .0) (ge-of-same (continues .begins x k));
-      below-high = λ x k. ≼-trans (le-of-same (continues .begins x k)) (inside x (omega (arith, below)) .1);
+      above-low = λ x k. ≼-trans (inside x (omega (arith, below)) .0) (ge-of-same (continues .begins x (omega arith)));
+      below-high = λ x k. ≼-trans (le-of-same (continues .begins x (omega arith))) (inside x (omega (arith, below)) .1);
     })

@@ -1,7 +1,7 @@
 -- Savings and payments of one layer, by where the total lies.
 use mathlib.Core.Path.{_≡_, refl, _∙_}
 use mathlib.Core.Bool.{Bool, true, false, cond}
-use Prim.Native.Nat.{ℕ, _+_, _-_, _≤_, _<_, min}
+use Prim.Native.Nat.{ℕ, _+_, _-_, _≤_, _<_}
 use native.Mathlib.Omega.{arith}
 use borrow.Author.Tests.{ltb-true, ltb-false}
 use lib.Dec.{ltb}
@@ -51,6 +51,10 @@ pub paid-saved : (c d x : ℕ) → payment c d x + saving c d x ≡ d - c
 unfolding payment
 paid-saved c d x = omega (arith, saving-width c d x)
 
-pub pays-above : PaysAbove
+-- what the total has above c, less what it has above d
+pays-is : (c d x : ℕ) → c < d → payment c d x ≡ (x - c) - (x - d)
 unfolding payment saving
-pays-above c d x l = by-total (λ s. (d - c) - s ≡ min x d - min x c) c d x (λ h. omega arith) (λ h k. omega arith) (λ h k. omega arith)
+pays-is c d x l = by-total (λ s. (d - c) - s ≡ (x - c) - (x - d)) c d x (λ h. omega arith) (λ h k. omega arith) (λ h k. omega arith)
+
+pub pays-above : PaysAbove
+pays-above c d x l = pays-is c d x l ∙ omega arith

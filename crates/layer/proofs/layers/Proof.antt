@@ -16,7 +16,9 @@ answer c = let a = c .args in answerOf (a .low .now) (a .high .now) (a .list) (a
 returns : tie.Need-returns
 returns c =
     let told = c .enum-told .given in
-    rw (told .1) (refuses _ _ _ _ _ (told .0 .0) (told .0 .1 .0) (sym (ap paper (told .1)) ∙ c .before .before .checked .ensures))
+    let a = c .before .before .before .args in
+    rw (told .1) (refuses (a .low .now) (a .high .now) (a .list) (a .answer-low .now) (a .answer-high .now) (told .0 .0) (told .0 .1 .0)
+    (sym (ap paper (told .1)) ∙ c .before .before .checked .ensures))
 
 -- where no condition holds
 module _ (c : tie.After-enum-told2) where
