@@ -144,7 +144,7 @@ class NoCall(unittest.TestCase):
                     self.check("high", query, [1, 1], given, 1)
                 self.check("low", layers, given, [1, 1], [(0, 1)])
                 self.check("high", layers, [1, 1], given, [(0, 1)])
-                self.check("layers", layers, [1, 1], [1, 1], given)
+                self.check("pairs", layers, [1, 1], [1, 1], given)
                 self.check("pairs[0]", layers, [1, 1], [1, 1], [given])
                 self.check("terms", Job.of, 1, given, (1, 1), 1)
                 self.check("terms[0]", Job.of, 1, [given], (1, 1), 1)
