@@ -35,5 +35,5 @@ def about_sums(low: Sequence[int], high: Sequence[int]) -> Optional[str]:
 
 def about_layers(low: Sequence[int], high: Sequence[int]) -> Optional[str]:
     """What is said of a table whose layers are priced: a slip in START would not show in their prices."""
-    return about_rest(low, high, "The rest counts as totals above the last, which pay every layer whole: make LAST larger to see whether they"
-                      " are there")
+    return about_rest(low, high, "The rest counts as totals above the last, which pay every layer whole: make LAST larger to see whether"
+                      " they are there")
