@@ -65,7 +65,6 @@ module _ (amount : ℕ → Fraction) (d : ℕ) where
 
 pub always-continues : AlwaysContinues
 always-continues amount d = record {
-  enough = omega (arith, one-more amount d);
-  sums-to = sums-to amount d;
+  complete = record { enough = omega (arith, one-more amount d); sums-to = sums-to amount d };
   begins = λ x l. eq-of-value (ap value (at-first amount d x (omega arith)));
 }

@@ -85,8 +85,7 @@ pub encloses-continued : EnclosesContinued
 encloses-continued low high amount inside list answerLow answerHigh ok i l g continues =
     let below = within low high list answerLow answerHigh ok i l in
     encloses-layer low high list answerLow answerHigh ok i l g (record {
-      enough = continues .enough;
-      sums-to = continues .sums-to;
+      complete = continues .complete;
       above-low = λ x k. ≼-trans (inside x (omega (arith, below)) .0) (ge-of-same (continues .begins x (omega arith)));
       below-high = λ x k. ≼-trans (le-of-same (continues .begins x (omega arith))) (inside x (omega (arith, below)) .1);
     })

@@ -24,7 +24,7 @@ use Rattle.algebra.proofs.Value.{order, ℚ, value, value-eq, value-le, le-of-v
 use Rattle.model.specs.Limits.{unit}
 use Rattle.intervals.specs.Amounts.{entries}
 use Rattle.layer.specs.Layer.{saving, payment, costBy}
-use Rattle.layer.specs.Enclosed.{amountAt, SumsToUnit, paid, Amounts}
+use Rattle.layer.specs.Enclosed.{amountAt, paid, Complete, Amounts}
 use Rattle.layer.proofs.Saving.{saving-none, paid-saved}
 
 -- ---- in any ordered ring
@@ -104,28 +104,28 @@ module _ (c d : ℕ) where
     abbrev amounts : ℕ → A
     amounts x = value (amountAt g x)
 
-    value-paid : d ≤ length g → SumsToUnit g → value (paid c d g) ≡ left amounts
-    value-paid enough total =
+    value-paid : Complete d g → value (paid c d g) ≡ left amounts
+    value-paid complete =
         value-accumulate (length g) (λ x. whole (pos (payment c d x)) ⊗ amountAt g x)
         ∙ sum-cong ℚ (length g) (λ x k. value-times (whole (pos (payment c d x))) (amountAt g x)
         ∙ ap (λ (v : A). v · amounts x) (value-nat (payment c d x)))
-        ∙ all-paid order (length g) d enough (λ x. nat ℚ (payment c d x)) saved amounts (nat ℚ (d - c)) (nat ℚ unit)
+        ∙ all-paid order (length g) d (complete .enough) (λ x. nat ℚ (payment c d x)) saved amounts (nat ℚ (d - c)) (nat ℚ unit)
         (λ x. sym (nat-add ℚ (payment c d x) (saving c d x)) ∙ ap (nat ℚ) (paid-saved c d x))
         (λ x k. ap (nat ℚ) (saving-none c d x k) ∙ nat-zero ℚ)
-        (sym (value-accumulate (length g) (amountAt g)) ∙ value-eq total ∙ value-nat unit)
+        (sym (value-accumulate (length g) (amountAt g)) ∙ value-eq (complete .sums-to) ∙ value-nat unit)
 
     module _ (low high : List ℤ) (ok : Amounts low high d g) where
       pub least : whole (costBy high c d) ≼ paid c d g
       least = le-of-value (rewritten order
           (less-left order (nat ℚ (d - c) · nat ℚ unit) d saved amounts (λ x. value (entries high x)) (λ x. nat-nonneg order (saving c d x))
           (λ x k. value-le (ok .below-high x k)))
-          (sym (value-cost high)) (sym (value-paid (ok .enough) (ok .sums-to))))
+          (sym (value-cost high)) (sym (value-paid (ok .complete))))
 
       pub most : paid c d g ≼ whole (costBy low c d)
       most = le-of-value (rewritten order
           (less-left order (nat ℚ (d - c) · nat ℚ unit) d saved (λ x. value (entries low x)) amounts (λ x. nat-nonneg order (saving c d x))
           (λ x k. value-le (ok .above-low x k)))
-          (sym (value-paid (ok .enough) (ok .sums-to))) (sym (value-cost low)))
+          (sym (value-paid (ok .complete))) (sym (value-cost low)))
 
   pub in-order : (low high : List ℤ) → ((x : ℕ) → x < d → getD low x (pos 0) ≤ℤ getD high x (pos 0)) → costBy high c d ≤ℤ costBy low c d
   unfolding costBy

@@ -31,10 +31,14 @@ SumsToUnit g = sumBelow (length g) (amountAt g) ≈ whole (pos unit)
 abbrev pub paid : (c d : ℕ) → List Fraction → Fraction
 paid c d g = sumBelow (length g) (λ x. whole (pos (payment c d x)) ⊗ amountAt g x)
 
--- "one for each total from 0 to d - 1 or further, that sums to U and lies in the rows' intervals at each total below d"
-pub record Amounts (low high : List ℤ) (d : ℕ) (g : List Fraction) : Type 0 where
+-- "one for each total from 0 to d - 1 or further, that sums to U"
+pub record Complete (d : ℕ) (g : List Fraction) : Type 0 where
   pub enough : d ≤ length g
   pub sums-to : SumsToUnit g
+
+-- "and lies in the rows' intervals at each total below d"
+pub record Amounts (low high : List ℤ) (d : ℕ) (g : List Fraction) : Type 0 where
+  pub complete : Complete d g
   pub above-low : (x : ℕ) → x < d → entries low x ≼ amountAt g x
   pub below-high : (x : ℕ) → x < d → amountAt g x ≼ entries high x
 
@@ -79,8 +83,7 @@ LayerSmall = OfEveryLayer (λ low high list answerLow answerHigh i.
 -- ---- amounts that do not end
 -- a finite list that has these amounts below d, goes on with any others, and sums to U
 pub record Continues (amount : ℕ → Fraction) (d : ℕ) (g : List Fraction) : Type 0 where
-  pub enough : d ≤ length g
-  pub sums-to : SumsToUnit g
+  pub complete : Complete d g
   pub begins : (x : ℕ) → x < d → amountAt g x ≈ amount x
 
 -- what the amounts below d leave of U
