@@ -1,9 +1,7 @@
 -- Such rows are not refused by 31 or 33, and they enclose the exact amounts; so what the level queries tell is true of these.
-use mathlib.Core.Path.{_≡_, sym}
+use mathlib.Core.Path.{_≡_}
 use mathlib.Core.List.{List, _∷_}
 use Prim.Native.Nat.{ℕ}
-use native.Mathlib.Nat as NL
-use borrow.Author.Tests.{le-ltb}
 use lib.IntN.{ℤ}
 use Rattle.model.specs.declared.Job.{Job}
 use Rattle.model.specs.Answer.{condition, firstOf}
@@ -22,7 +20,7 @@ level-alone : (job : Job) (weights : List ℕ) (lent : Lent) → Accepted job we
     ≡ firstOf (condition (wrongLevel level) 32 0 ∷ reachCheck row number level)
 unfolding firstOf
 level-alone job weights lent ok row number level =
-    rw (right-lengths job weights lent ok, le-ltb _ _ (NL.le-of-eq (sym (right-entries job weights lent ok))))
+    rw (right-lengths job weights lent ok, right-entries job weights lent ok)
 
 pub rows-not-refused : RowsNotRefused
 unfolding sureQuery possibleQuery

@@ -1,9 +1,10 @@
 -- The rows' first X+1 places are what the job shows. These entries are in order, as the exact amounts lie between them, and small, as none
 -- has a fault; so no call refuses them by 31 or 33.
-use mathlib.Core.Path.{_≡_, refl}
+use mathlib.Core.Path.{_≡_, refl, sym}
 use mathlib.Core.Bool.{false}
 use mathlib.Core.List.{List}
 use Prim.Native.Nat.{ℕ, _+_, _≤_, _<_}
+use native.Mathlib.Nat as NL
 use native.Mathlib.Omega.{arith}
 use borrow.Author.Tests.{le-ltb, eq-eqb}
 use lib.IntN.{ℤ, pos}
@@ -21,7 +22,7 @@ use Rattle.exact.specs.JobAmount.{Divisible, amount}
 use Rattle.rows.specs.Layout.{Lent}
 use Rattle.compound.specs.Call.{curveLent}
 use Rattle.compound.proofs.Accepted.{limits, entry-small, lows-long, highs-long}
-use Rattle.intervals.specs.Checks.{wrongLengths, wrongAt, firstWrong}
+use Rattle.intervals.specs.Checks.{wrongAt, rowsCondition, entryCondition}
 use Rattle.intervals.specs.Amounts.{Enclose}
 use Rattle.accuracy.specs.Accuracy.{Accepted, shown}
 use Rattle.accuracy.specs.Rows.{lows, highs, RowsEnclose}
@@ -50,7 +51,7 @@ module _ (job : Job) (weights : List ℕ) (lent : Lent) (ok : Accepted job weigh
       simp getD-take (encloses job weights lent ok h x (omega arith) p s t)
 
   -- ---- 31
-  pub right-lengths : wrongLengths (length low) (length high) ≡ false
+  pub right-lengths : rowsCondition low high .holds ≡ false
   right-lengths = rw (
     low-length,
     high-length,
@@ -72,8 +73,8 @@ module _ (job : Job) (weights : List ℕ) (lent : Lent) (ok : Accepted job weigh
       let small = entry-small job weights lent ok x l in
       simp (getD-take, le-ltb _ _ (small .low), le-ltb _ _ (small .high), ≤ℤ-ltZ _ _ (ordered x (omega arith)))
 
-  pub right-entries : firstWrong low high ≡ length low
-  right-entries = smallest-none _ _ (λ x l. right-entry x (rw low-length at l))
+  pub right-entries : entryCondition low high .holds ≡ false
+  right-entries = le-ltb _ _ (NL.le-of-eq (sym (smallest-none _ _ (λ x l. right-entry x (rw low-length at l)))))
 
 pub rows-enclose : RowsEnclose
 rows-enclose = enclosed

@@ -33,11 +33,11 @@ module _ (row : List ℤ) (c d : ℕ) where
   product x = pos (saving c d x) *ℤ getD row x (pos 0)
 
   -- the sum of saving times entry below total n
-  abbrev pub sumBefore : ℕ → ℤ
-  sumBefore n = sumℤ n product
+  abbrev pub savedBefore : ℕ → ℤ
+  savedBefore n = sumℤ n product
 
   -- below the attachment it is the width times the sum of the entries
-  pub before-attachment : pos (d - c) *ℤ sumℤ c (λ x. getD row x (pos 0)) ≡ sumBefore c
+  pub before-attachment : pos (d - c) *ℤ sumℤ c (λ x. getD row x (pos 0)) ≡ savedBefore c
   before-attachment =
       sum-scale (integers .semiring) c (pos (d - c)) (λ x. getD row x (pos 0))
       ∙ sum-cong (integers .semiring) c (λ x l. ap (λ (n : ℕ). pos n *ℤ getD row x (pos 0)) (sym (saving-below c d x l)))
@@ -47,7 +47,7 @@ module _ (row : List ℤ) (c d : ℕ) where
     product-small x l = size-mul-le (pos (saving c d x)) (getD row x (pos 0)) (mostTotals - x) (2 * unit)
         (omega (arith, saving-left c d x, small .short, fit .within)) (small .small x (omega (arith, fit .within)))
 
-    sum-small : (n : ℕ) → n ≤ d → natAbs (sumBefore n) ≤ 251502 * unit
+    sum-small : (n : ℕ) → n ≤ d → natAbs (savedBefore n) ≤ 251502 * unit
     sum-small n le =
         let sizes = size-sum n product largest (λ x l. product-small x (omega arith)) in
         let more = sumℕ-longer n mostTotals largest (omega (arith, small .short, fit .within)) in
@@ -56,8 +56,8 @@ module _ (row : List ℤ) (c d : ℕ) where
     pub product-fits : (x : ℕ) → x < d → SFits w64 (product x)
     product-fits x l = size-fits w64 (product x) (omega (arith, product-small x l))
 
-    pub sum-fits : (n : ℕ) → n ≤ d → SFits w64 (sumBefore n)
-    sum-fits n le = size-fits w64 (sumBefore n) (omega (arith, sum-small n le))
+    pub sum-fits : (n : ℕ) → n ≤ d → SFits w64 (savedBefore n)
+    sum-fits n le = size-fits w64 (savedBefore n) (omega (arith, sum-small n le))
 
     pub whole-fits : SFits w64 (pos ((d - c) * unit))
     whole-fits = size-fits w64 (pos ((d - c) * unit)) (omega (arith, small .short, fit .within))
@@ -65,7 +65,7 @@ module _ (row : List ℤ) (c d : ℕ) where
     pub cost-small : natAbs (costBy row c d) ≤ 252003 * unit
     unfolding costBy
     cost-small =
-        omega (arith, size-sub (pos ((d - c) * unit)) (sumBefore d), sum-small d (NL.le-refl d), small .short, fit .within)
+        omega (arith, size-sub (pos ((d - c) * unit)) (savedBefore d), sum-small d (NL.le-refl d), small .short, fit .within)
 
     pub cost-fits : SFits w64 (costBy row c d)
     cost-fits = size-fits w64 (costBy row c d) (omega (arith, cost-small))

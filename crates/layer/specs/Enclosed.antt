@@ -59,24 +59,24 @@ module _ (low high : List ℤ) (list : LayerList) (answerLow answerHigh : List �
   PaidBetween i g = Between (lowCost i) (highCost i) (paid (attachment list i) (limit list i) g)
 
 -- what is said of each layer of every accepted call on two rows
-abbrev pub OfEveryLayer : ((low high : List ℤ) (list : LayerList) (answerLow answerHigh : List ℤ) (i : ℕ) → Type 0) → Type 0
-OfEveryLayer Said = (low high : List ℤ) (list : LayerList) (answerLow answerHigh : List ℤ) → Accepted low high list answerLow answerHigh
-    → (i : ℕ) → i < list .count → Said low high list answerLow answerHigh i
+abbrev pub OfEveryLayer : (low high : List ℤ) → ((list : LayerList) (answerLow answerHigh : List ℤ) (i : ℕ) → Type 0) → Type 0
+OfEveryLayer low high Said = (list : LayerList) (answerLow answerHigh : List ℤ) → Accepted low high list answerLow answerHigh
+    → (i : ℕ) → i < list .count → Said list answerLow answerHigh i
 
 -- ---- the statements
 -- "for every finite list of exact amounts .. the sum of payment times amount lies between low and high"; from d on nothing is asked of it
 abbrev pub EnclosesLayer : Type 0
-EnclosesLayer = OfEveryLayer (λ low high list answerLow answerHigh i. (g : List Fraction) → Amounts low high (limit list i) g
-    → PaidBetween low high list answerLow answerHigh i g)
+EnclosesLayer = (low high : List ℤ) → OfEveryLayer low high (λ list answerLow answerHigh i.
+    (g : List Fraction) → Amounts low high (limit list i) g → PaidBetween low high list answerLow answerHigh i g)
 
 -- the low is at most the high, also where there is no such list
 abbrev pub LayerInOrder : Type 0
-LayerInOrder = OfEveryLayer (λ low high list answerLow answerHigh i.
+LayerInOrder = (low high : List ℤ) → OfEveryLayer low high (λ list answerLow answerHigh i.
     lowCost low high list answerLow answerHigh i ≤ℤ highCost low high list answerLow answerHigh i)
 
 -- neither is larger than 252,003,000,000,000 either way
 abbrev pub LayerSmall : Type 0
-LayerSmall = OfEveryLayer (λ low high list answerLow answerHigh i.
+LayerSmall = (low high : List ℤ) → OfEveryLayer low high (λ list answerLow answerHigh i.
     (natAbs (lowCost low high list answerLow answerHigh i) ≤ 252003 * unit)
     × (natAbs (highCost low high list answerLow answerHigh i) ≤ 252003 * unit))
 
@@ -100,9 +100,8 @@ AlwaysContinues = (amount : ℕ → Fraction) (d : ℕ) → Continues amount d (
 
 -- and of amounts that the rows enclose, what a layer pays on average lies from low to high, however they go on
 abbrev pub EnclosesPaid : (low high : List ℤ) → (ℕ → Fraction) → Type 0
-EnclosesPaid low high amount = (list : LayerList) (answerLow answerHigh : List ℤ) → Accepted low high list answerLow answerHigh
-    → (i : ℕ) → i < list .count → (g : List Fraction) → Continues amount (limit list i) g
-    → PaidBetween low high list answerLow answerHigh i g
+EnclosesPaid low high amount = OfEveryLayer low high (λ list answerLow answerHigh i.
+    (g : List Fraction) → Continues amount (limit list i) g → PaidBetween low high list answerLow answerHigh i g)
 
 abbrev pub EnclosesContinued : Type 0
 EnclosesContinued = (low high : List ℤ) (amount : ℕ → Fraction) → Enclose low high amount → EnclosesPaid low high amount

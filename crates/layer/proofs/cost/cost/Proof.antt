@@ -14,13 +14,13 @@ use Rattle.algebra.specs.Sum.{accumulate}
 use Rattle.algebra.proofs.Size.{held, size-fits}
 use Rattle.layer.specs.Layer.{costBy}
 use Rattle.layer.proofs.Saving.{saving-from}
-use Rattle.layer.proofs.Sizes.{product, sumBefore, before-attachment, product-fits, sum-fits, whole-fits, cost-fits}
+use Rattle.layer.proofs.Sizes.{product, savedBefore, before-attachment, product-fits, sum-fits, whole-fits, cost-fits}
 use Rattle.layer.proofs.cost.cost.Statement.{statement}
 use Rattle.layer.proofs.cost.cost.Tie as tie
 
 abbrev Inv-loop : tie.InvT-loop
 Inv-loop row attachment limit width saved₀ x₀ saved x =
-    (attachment ≤ x) × (x ≤ limit) × (saved ≡ ofZ w64 (sumBefore row attachment limit x))
+    (attachment ≤ x) × (x ≤ limit) × (saved ≡ ofZ w64 (savedBefore row attachment limit x))
 
 abbrev μ-loop : tie.MeasureT-loop
 μ-loop row attachment limit width saved₀ x₀ saved x = limit - x
@@ -31,7 +31,7 @@ module _ (c : tie.Start Inv-loop μ-loop) where
   products = product (c .args .row .now) (c .args .attachment) (c .args .limit)
 
   abbrev sums : ℕ → ℤ
-  sums = sumBefore (c .args .row .now) (c .args .attachment) (c .args .limit)
+  sums = savedBefore (c .args .row .now) (c .args .attachment) (c .args .limit)
 
   fits : (n : ℕ) → n ≤ c .args .limit → SFits w64 (sums n)
   fits n l = sum-fits (c .args .row .now) (c .args .attachment) (c .args .limit) (c .pre .0) (c .pre .1) n l
