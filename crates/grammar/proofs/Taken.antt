@@ -240,7 +240,7 @@ module _ (places : ℕ) (all : List ℕ) where
       → Right (lastLine places law start n s)
   unfolding lastLine
   last law start n s fits low high here = goes-on false LAST 1 _ refl here λ zs rest p there.
-      severity (jobOf law start (natural zs 0)) (n + 1) rest (record { law = fits; low = low; high = high; last = p .small 0 })
+      severity (jobOf law start (natural zs 0) 0) (n + 1) rest (record { law = fits; low = low; high = high; last = p .small 0 })
       (rw (one-natural p) at there)
 
   start : (law : Law) (n : ℕ) (s : List ℕ) → LawFits law (law .order) → Stands n (lawText law (law .order)) s

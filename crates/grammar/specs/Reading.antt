@@ -54,7 +54,7 @@ severityLine places job n s =
 
 unfoldable pub lastLine : ℕ → Law → Start → ℕ → List ℕ → Reading
 lastLine places law start n s =
-    on (line false LAST 1 s) n (λ zs rest. severityLine places (jobOf law start (natural zs 0)) (n + 1) rest)
+    on (line false LAST 1 s) n (λ zs rest. severityLine places (jobOf law start (natural zs 0) 0) (n + 1) rest)
 
 unfoldable pub startLine : ℕ → Law → ℕ → List ℕ → Reading
 startLine places law n s =

@@ -14,6 +14,6 @@ lawOf order divisor a b = record { order = order; divisor = divisor; a = a; b = 
 abbrev pub startOf : ℕ → ℕ → Start
 startOf low high = record { low = low; high = high }
 
--- with X
-abbrev pub jobOf : Law → Start → ℕ → Job
-jobOf law start last = record { law = law; start = start; last = last }
+-- with X and w(0), the weight of severity 0
+abbrev pub jobOf : Law → Start → ℕ → ℕ → Job
+jobOf law start last zero = record { law = law; start = start; last = last; zero = zero }

@@ -10,15 +10,17 @@ pub struct Law {
     pub b: [i64; 4],
 }
 
-// The chance of no claims, in units: it lies from `low` to `high`.
+// The chance that the total is zero, in units: it lies from `low` to `high`.
 pub struct Start {
     pub low: u64,
     pub high: u64,
 }
 
-// A job but for its table: `last` is the last total, X.
+// A job but for the row of its table: `last` is the last total, X, and `zero` the weight of severity 0, that of the claims which close at
+// nothing.
 pub struct Job {
     pub law: Law,
     pub start: Start,
     pub last: u64,
+    pub zero: u64,
 }

@@ -31,7 +31,7 @@ paper read row =
 
 -- "A refusal carries one reason and the number of its line", and "the other numbers in its answer are 0"
 abbrev pub noJob : Job
-noJob = jobOf (noTerms 0 0) (startOf 0 0) 0
+noJob = jobOf (noTerms 0 0) (startOf 0 0) 0 0
 
 abbrev pub told : Reading → Told
 told (reads sheet) = record { answer = accepted; job = sheet .job; count = length (sheet .weights); weights = sheet .weights }

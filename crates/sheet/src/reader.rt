@@ -47,6 +47,7 @@ fn refused(reason: Reason, line: usize) -> SheetRead
         law,
         start,
         last: 0,
+        zero: 0,
     };
     SheetRead {
         answer: LineAnswer::Refused(reason, line),
@@ -118,7 +119,7 @@ fn read_last(
     match read_one(rest, &LAST) {
         OneRead::Refused(reason) => refused(reason, line),
         OneRead::Number(last, next) => {
-            let job = Job { law, start, last };
+            let job = Job { law, start, last, zero: 0 };
             read_severity(&rest[next..], places, line + 1, job, weights)
         }
     }
