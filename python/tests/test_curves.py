@@ -83,8 +83,8 @@ class Rule(unittest.TestCase):
     def test_zeros(self):
         """Claims of size 0. Of two a year each second one closes at nothing, and the rest is P1: each factor is twice as large, and so is
         the divisor, 4x. Of a law with a = 1/2, half of whose claims do, the divisor is (2 * 2 - 1)x, and the factor x: a third of each
-        chance is the next. The start is that of 1/3 too, 2/3. With a = 1 the divisor is (2 - 1)x, which is 1 at total 1: there is nothing to
-        round there, and nothing is added. Where 999 of 1,000 claims close at nothing, a thousandth is left of each."""
+        chance is the next, and the start is 2/3. With a = 1 the divisor is (2 - 1)x, which is 1 at total 1: there is nothing to round
+        there, and nothing is added. Where 999 of 1,000 claims close at nothing, a thousandth is left of each."""
         job = Job.of(1, [(0, 2)], (367879441, 367879442), 3, zero=2)
         self.check(job, [367879441, 183939720, 229924650, 99634015], [367879442, 183939721, 229924652, 99634016], [1, 2, 2, 2], (1, 1))
         job = Job.of(2, [(1, 0)], (666666666, 666666667), 2, zero=1)
