@@ -119,7 +119,12 @@ fn read_last(
     match read_one(rest, &LAST) {
         OneRead::Refused(reason) => refused(reason, line),
         OneRead::Number(last, next) => {
-            let job = Job { law, start, last, zero: 0 };
+            let job = Job {
+                law,
+                start,
+                last,
+                zero: 0,
+            };
             read_severity(&rest[next..], places, line + 1, job, weights)
         }
     }
