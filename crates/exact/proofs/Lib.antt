@@ -4,4 +4,5 @@ pub mod Sundt
 pub mod Frequency
 pub mod Amount
 pub mod Recursion
+pub mod Thinned
 pub mod Cases

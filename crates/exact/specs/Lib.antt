@@ -2,6 +2,7 @@
 pub mod Frequency
 pub mod Severity
 pub mod Amount
-pub mod JobAmount
 pub mod Recursion
+pub mod Thinned
+pub mod JobAmount
 pub mod Cases
