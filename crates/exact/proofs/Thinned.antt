@@ -1,5 +1,5 @@
--- The law of the claims that are not zero. An equation between quotients is one between numbers, multiplied by the divisors D W - A w(0), D,
--- W and V; the recursion is that of the thinned law, whose factors are V times the given law's, divided by V.
+-- The law of the claims that are not zero. An equation between quotients is one between numbers, multiplied by the divisors D, W, V and
+-- D W - A w(0); the recursion is that of the thinned law, whose factors are V times the given law's, divided by V.
 use mathlib.Core.Path.{_≡_, sym, _∙_, ap, ap₂}
 use mathlib.Core.List.{[], _∷_}
 use Prim.Native.Nat.{ℕ, zero, suc, _+_, _-_, _*_, _≤_, _<_, min}

@@ -5,4 +5,5 @@ pub mod Amount
 pub mod Recursion
 pub mod Thinned
 pub mod JobAmount
+pub mod Zeros
 pub mod Cases
