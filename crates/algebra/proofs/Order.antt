@@ -40,10 +40,10 @@ module _ (O : OrderedRing) where
   add-mono {a} {b} {c} {d} h k =
       O .le-trans (O .add-le c h) (rewritten (O .add-le b k) (R .semiring .add-comm c b) (R .semiring .add-comm d b))
 
-  difference : {a b : A} → a ⊑ b → 𝟘 ⊑ b ⊹ neg a
+  pub difference : {a b : A} → a ⊑ b → 𝟘 ⊑ b ⊹ neg a
   difference {a} h = rewritten (O .add-le (neg a) h) (R .add-neg a) refl
 
-  of-difference : {a b : A} → 𝟘 ⊑ b ⊹ neg a → a ⊑ b
+  pub of-difference : {a b : A} → 𝟘 ⊑ b ⊹ neg a → a ⊑ b
   of-difference {a} {b} h = rewritten (O .add-le a h)
       (solve R (a ∷ []) (null :+ var 0) (var 0) tt)
       (solve R (a ∷ b ∷ []) (var 1 :+ :- var 0 :+ var 0) (var 1) tt)
