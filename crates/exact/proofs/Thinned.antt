@@ -8,6 +8,7 @@ use native.Mathlib.Omega.{arith}
 use lib.IntN.{ℤ, pos, negsuc, negℤ, _-ℤ_, _*ℤ_}
 use lib.Signed.{_≤ℤ_}
 use lib.ListN.{length}
+use Rattle.algebra.specs.Parts.{up}
 use Rattle.algebra.specs.Semiring.{Semiring, nat}
 use Rattle.algebra.specs.Ring.{Ring}
 use Rattle.algebra.specs.Order.{OrderedRing}
@@ -23,7 +24,7 @@ use Rattle.algebra.proofs.Solver.{solve}
 use Rattle.algebra.proofs.Sum.{sum-cong, sum-scale}
 use Rattle.algebra.proofs.Value.{order, ℚ, value, eq-of-value, value-le, le-of-value, le-of-whole, value-zero, value-nat, value-times}
 use Rattle.algebra.proofs.Value.{value-over}
-use Rattle.model.specs.Weights.{totalWeight, allWeight, cut, divisorZero}
+use Rattle.model.specs.Weights.{totalWeight, allWeight, divisorZero}
 use Rattle.exact.specs.Frequency.{Frequency, a, b, countCoefficient}
 use Rattle.exact.specs.Severity.{Severity, weight, density}
 use Rattle.exact.specs.Recursion.{wholeFactor}
@@ -98,15 +99,15 @@ value-oneLess x = cancel-eq order (x .lower) (x .lower-pos)
     ∙ ap₂ _⊹_ (int-pos (order .ring) (x .lower)) (int-neg (order .ring) (x .upper) ∙ ap neg (sym (value-upper x)))
     ∙ solve (order .ring) (nat ℚ (x .lower) ∷ value x ∷ []) (var 0 :+ :- (var 0 :* var 1)) (var 0 :* (unit :+ :- var 1)) tt)
 
-int-cut : (z : ℤ) → 1 ≤ cut z → nat ℚ (cut z) ≡ integer z
-int-cut (pos n) h = sym (int-pos (order .ring) n)
-int-cut (negsuc n) h = absurd (NL.not-suc-le-zero h)
+int-up : (z : ℤ) → 1 ≤ up z → nat ℚ (up z) ≡ integer z
+int-up (pos n) h = sym (int-pos (order .ring) n)
+int-up (negsuc n) h = absurd (NL.not-suc-le-zero h)
 
 pub law-divisor : (law : Frequency) (w₀ : ℕ) (table : Severity) → 1 ≤ lawDivisor law w₀ table
     → nat ℚ (lawDivisor law w₀ table)
     ≡ nat ℚ (law .divisor) · nat ℚ (allWeight w₀ (table .weights)) ⊹ neg (integer (law .termA 1) · nat ℚ w₀)
 law-divisor law w₀ table h =
-    int-cut _ h ∙ int-add (order .ring) (pos (law .divisor * allWeight w₀ (table .weights))) (negℤ (law .termA 1 *ℤ pos w₀))
+    int-up _ h ∙ int-add (order .ring) (pos (law .divisor * allWeight w₀ (table .weights))) (negℤ (law .termA 1 *ℤ pos w₀))
     ∙ ap₂ _⊹_ (int-pos (order .ring) _ ∙ nat-mul ℚ (law .divisor) (allWeight w₀ (table .weights)))
     (int-neg (order .ring) (law .termA 1 *ℤ pos w₀) ∙ ap neg (int-mul (order .ring) (law .termA 1) (pos w₀)
     ∙ ap (λ (u : A). integer (law .termA 1) · u) (int-pos (order .ring) w₀)))
