@@ -6,6 +6,7 @@ use Prim.Native.Nat.{ℕ, zero, suc, _≤_, _<_, _+_, _-_}
 use native.Mathlib.Nat as NL
 use lib.IntN.{ℤ, pos, _+ℤ_}
 use lib.Signed.{_≤ℤ_}
+use Rattle.algebra.specs.Parts.{up, down}
 use Rattle.algebra.specs.Semiring.{Semiring, nat}
 use Rattle.algebra.specs.Ring.{Ring, int}
 use Rattle.algebra.specs.Order.{OrderedRing}
@@ -15,7 +16,7 @@ use Rattle.algebra.proofs.Semiring.{nat-zero, nat-suc}
 use Rattle.algebra.proofs.Ring.{int-pos, int-add}
 use Rattle.algebra.proofs.Solver.{solve}
 use Rattle.algebra.proofs.Sum.{sum-related}
-use Rattle.algebra.proofs.Integer.{up, down, signed, split-add, pos-mono}
+use Rattle.algebra.proofs.Integer.{signed, split-add, pos-mono}
 
 module _ (O : OrderedRing) where
   open OrderedRing O using (_⊑_)

@@ -8,6 +8,7 @@ use native.Mathlib.Nat as NL
 use native.Mathlib.Omega.{arith}
 use lib.IntN.{ℤ, pos, negsuc, negℤ, natAbs, _+ℤ_, _-ℤ_, _*ℤ_}
 use lib.Signed.{_≤ℤ_}
+use Rattle.algebra.specs.Parts.{up}
 use Rattle.algebra.specs.Semiring.{Semiring, nat}
 use Rattle.algebra.specs.Ring.{Ring, int}
 use Rattle.algebra.specs.Order.{OrderedRing}
@@ -20,7 +21,7 @@ use Rattle.algebra.proofs.Order.{rewritten, neg-mono, nat-nonneg, cancel-le}
 use Rattle.algebra.proofs.Solver.{solve}
 use Rattle.algebra.proofs.Value.{order, ℚ, value, eq-of-value, value-eq, value-le, le-of-value, value-plus, value-zero, value-one}
 use Rattle.algebra.proofs.Value.{value-over, value-over-nat}
-use Rattle.model.specs.Weights.{allWeight, cut, thinnedDivisor}
+use Rattle.model.specs.Weights.{allWeight, thinnedDivisor}
 use Rattle.exact.specs.Frequency.{Frequency, a, b, countCoefficient}
 use Rattle.exact.specs.Severity.{Severity}
 use Rattle.exact.specs.Thinned.{lawDivisor}
@@ -109,14 +110,14 @@ limit-is-thinned law one w₀ table h inside p x = come-together law one w₀ ta
     (difference-negligible law one w₀ table h p shrinking (λ z. shrinks-shift order _ (claims-shrink law one w₀ table p inside z)) x)
 
 -- ---- distributions, with A zero or more
-cut-least : (z : ℤ) → 1 ≤ cut z → pos 1 ≤ℤ z
-cut-least (pos n) h = omega signed
-cut-least (negsuc n) h = absurd (NL.not-suc-le-zero h)
+up-least : (z : ℤ) → 1 ≤ up z → pos 1 ≤ℤ z
+up-least (pos n) h = omega signed
+up-least (negsuc n) h = absurd (NL.not-suc-le-zero h)
 
 below-one : (z : ℤ) (D w₀ W : ℕ) → pos 0 ≤ℤ z → 1 ≤ thinnedDivisor D z w₀ W → natAbs z * w₀ < D * W
 below-one (pos m) D w₀ W l h = omega (
   signed,
-  cut-least (pos (D * W) -ℤ pos m *ℤ pos w₀) h,
+  up-least (pos (D * W) -ℤ pos m *ℤ pos w₀) h,
   split-add (pos (D * W)) (negℤ (pos m *ℤ pos w₀)),
   split-neg (pos m *ℤ pos w₀),
 )

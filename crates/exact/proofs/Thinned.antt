@@ -1,6 +1,6 @@
 -- The law of the claims that are not zero. An equation between quotients is one between numbers, multiplied by the divisors D, W, V and
 -- D W - A w(0); the recursion is that of the thinned law, whose factors are V times the given law's, divided by V.
-use mathlib.Core.Path.{_≡_, refl, sym, _∙_, ap, ap₂}
+use mathlib.Core.Path.{_≡_, sym, _∙_, ap, ap₂}
 use mathlib.Core.List.{[], _∷_}
 use Prim.Native.Nat.{ℕ, zero, suc, _+_, _-_, _*_, _≤_, _<_, min}
 use native.Mathlib.Nat as NL
@@ -8,6 +8,7 @@ use native.Mathlib.Omega.{arith}
 use lib.IntN.{ℤ, pos, negsuc, negℤ, _-ℤ_, _*ℤ_}
 use lib.Signed.{_≤ℤ_}
 use lib.ListN.{length}
+use Rattle.algebra.specs.Parts.{up}
 use Rattle.algebra.specs.Semiring.{Semiring, nat}
 use Rattle.algebra.specs.Ring.{Ring}
 use Rattle.algebra.specs.Order.{OrderedRing}
@@ -17,13 +18,13 @@ use Rattle.algebra.specs.Fraction.{Fraction, over}
 use Rattle.algebra.proofs.Semiring.{ring, nat-zero, nat-add, nat-mul}
 use Rattle.algebra.proofs.Ring.{int-pos, int-neg, int-add, int-mul}
 use Rattle.algebra.proofs.Induction.{strong}
-use Rattle.algebra.proofs.Integer.{integers, up, signed, split-le, split-add, split-neg, split-mul}
+use Rattle.algebra.proofs.Integer.{integers, signed, split-le, split-add, split-neg, split-mul}
 use Rattle.algebra.proofs.Order.{rewritten, mul-mono, nat-nonneg, cancel-eq}
 use Rattle.algebra.proofs.Solver.{solve}
 use Rattle.algebra.proofs.Sum.{sum-cong, sum-scale}
 use Rattle.algebra.proofs.Value.{order, ℚ, value, eq-of-value, value-le, le-of-value, le-of-whole, value-zero, value-nat, value-times}
 use Rattle.algebra.proofs.Value.{value-over, value-over-nat, value-upper}
-use Rattle.model.specs.Weights.{totalWeight, allWeight, cut, divisorZero}
+use Rattle.model.specs.Weights.{totalWeight, allWeight, divisorZero}
 use Rattle.exact.specs.Frequency.{Frequency, a, b, countCoefficient}
 use Rattle.exact.specs.Severity.{Severity, weight, density}
 use Rattle.exact.specs.Recursion.{wholeFactor}
@@ -85,26 +86,21 @@ infixl 7 _·_
 pub thinned-divisor-large : ThinnedDivisorLarge
 thinned-divisor-large D A w₀ weights h = omega (
   arith,
-  cut-up (pos (D * allWeight w₀ weights) -ℤ A *ℤ pos w₀),
   split-add (pos (D * allWeight w₀ weights)) (negℤ (A *ℤ pos w₀)),
   split-neg (A *ℤ pos w₀),
   split-mul A (pos w₀),
   NL.mul-le-mul-right w₀ (split-le h),
 )
-  where
-    cut-up : (z : ℤ) → cut z ≡ up z
-    cut-up (pos n) = refl
-    cut-up (negsuc n) = refl
 
-int-cut : (z : ℤ) → 1 ≤ cut z → nat ℚ (cut z) ≡ integer z
-int-cut (pos n) h = sym (int-pos (order .ring) n)
-int-cut (negsuc n) h = absurd (NL.not-suc-le-zero h)
+int-up : (z : ℤ) → 1 ≤ up z → nat ℚ (up z) ≡ integer z
+int-up (pos n) h = sym (int-pos (order .ring) n)
+int-up (negsuc n) h = absurd (NL.not-suc-le-zero h)
 
 pub law-divisor : (law : Frequency) (w₀ : ℕ) (table : Severity) → 1 ≤ lawDivisor law w₀ table
     → nat ℚ (lawDivisor law w₀ table)
     ≡ nat ℚ (law .divisor) · nat ℚ (allWeight w₀ (table .weights)) ⊹ neg (integer (law .termA 1) · nat ℚ w₀)
 law-divisor law w₀ table h =
-    int-cut _ h ∙ int-add (order .ring) (pos (law .divisor * allWeight w₀ (table .weights))) (negℤ (law .termA 1 *ℤ pos w₀))
+    int-up _ h ∙ int-add (order .ring) (pos (law .divisor * allWeight w₀ (table .weights))) (negℤ (law .termA 1 *ℤ pos w₀))
     ∙ ap₂ _⊹_ (int-pos (order .ring) _ ∙ nat-mul ℚ (law .divisor) (allWeight w₀ (table .weights)))
     (int-neg (order .ring) (law .termA 1 *ℤ pos w₀) ∙ ap neg (int-mul (order .ring) (law .termA 1) (pos w₀)
     ∙ ap (λ (u : A). integer (law .termA 1) · u) (int-pos (order .ring) w₀)))

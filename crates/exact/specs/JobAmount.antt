@@ -7,7 +7,8 @@ use lib.ListN.{getD}
 use Rattle.algebra.specs.Fraction.{Fraction, _≈_}
 use Rattle.model.specs.declared.Law.{Law}
 use Rattle.model.specs.declared.Job.{Job}
-use Rattle.model.specs.Weights.{totalWeight, allWeight, thinnedDivisor}
+use Rattle.model.specs.Weights.{totalWeight}
+use Rattle.model.specs.Job.{jobDivisor}
 use Rattle.exact.specs.Frequency.{Frequency}
 use Rattle.exact.specs.Severity.{Severity}
 use Rattle.exact.specs.Amount.{exactAmount}
@@ -33,7 +34,7 @@ severity weights h = record { weights = weights; total-pos = h }
 -- what the exact calculation needs of a job: divisors that are not 0
 pub record Divisible (job : Job) (weights : List ℕ) : Type 0 where
   pub divisor-pos : 1 ≤ job .law .divisor
-  pub thinned-pos : 1 ≤ thinnedDivisor (job .law .divisor) (termAt (job .law .a) 1) (job .zero) (allWeight (job .zero) weights)
+  pub thinned-pos : 1 ≤ jobDivisor job weights
   pub total-pos : 1 ≤ totalWeight weights
 
 module _ (job : Job) (weights : List ℕ) (h : Divisible job weights) where
