@@ -5,7 +5,8 @@ use native.Mathlib.Nat as NL
 use native.Mathlib.Omega.{arith}
 use lib.IntN.{ℤ, pos, negsuc, negℤ, _-ℤ_, _*ℤ_}
 use lib.Signed.{_≤ℤ_, ≤ℤ-refl}
-use Rattle.algebra.proofs.Integer.{up, down, signed, split-add, split-mul, split-neg}
+use Rattle.algebra.specs.Parts.{up, down}
+use Rattle.algebra.proofs.Integer.{signed, split-add, split-mul, split-neg}
 use Rattle.model.specs.declared.Job.{Job}
 use Rattle.exact.specs.JobAmount.{Divisible}
 use Rattle.outward.specs.Division.{floorDiv, ceilDiv}
@@ -104,4 +105,4 @@ module _ (job : Job) (weights : List ℕ) where
   narrow-first (suc j) = ≤ℤ-refl (pos 0)
 
   pub narrow : Divisible job weights → (x j : ℕ) → j < job .law .order → Narrow (curveRows job weights j x)
-  narrow h = all-entries narrowing job weights (divisors-pos (job .law) weights (h .divisor-pos) (h .total-pos)) narrow-first
+  narrow h = all-entries narrowing job weights (divisors-pos job weights (h .thinned-pos) (h .total-pos)) narrow-first
