@@ -51,6 +51,12 @@ def sums(law, a, b, table, last):
     raise ArithmeticError(f"{MOST_MEMBERS} members do not do for the sums of a law with a = {a} on a table with q = {q}")
 
 
+def sums_of_job(job, law, last):
+    """The law's count coefficients are those of all claims."""
+    a, b = Fraction(job.a[0], job.divisor), Fraction(job.b[0], job.divisor)
+    return sums(law, a, b, [job.zero, *job.weights], last)
+
+
 def off_sums(found, left, amounts):
     """Where an amount is g(x)/g(0), it is, times what was found of g(0), what was found of g(x), but for what is left of both."""
     for x, amount in enumerate(amounts):
@@ -59,10 +65,8 @@ def off_sums(found, left, amounts):
 
 
 def beside_sums(job, law, amounts):
-    """How the sums were found, and what is wrong with the clerk's amounts per unit of the start, which is g(0). The law's count
-    coefficients are those of all claims."""
-    a, b = Fraction(job.a[0], job.divisor), Fraction(job.b[0], job.divisor)
-    found, left = sums(law, a, b, [job.zero, *job.weights], len(amounts) - 1)
+    """How the sums were found, and what is wrong with the clerk's amounts per unit of the start, which is g(0)."""
+    found, left = sums_of_job(job, law, len(amounts) - 1)
     return "but for a rest" if left else "whole", list(off_sums(found, left, amounts))
 
 
