@@ -22,6 +22,13 @@ MEAN, ZERO, WEIGHTS = 2, 2, (1, 1)
 NO_CLAIMS, OTHER_6_2, ZERO_6_3, ZERO_GROUPS = Law(MEAN, 1).line(), f"{Law(21, 40, 3).line()}{AND}ZERO 1", "ZERO 0", "ZERO 2"
 
 
+
+def remark(zero):
+    """How the command's sentence about chances that do not add up to 1 ends where size 0 has this weight."""
+    return (f"With a weight at ZERO, {zero} here, START is the chance that the total is zero, and not that of no claims: claimtotals start "
+            f"--help says how to get it.")
+
+
 # ---- chances, by the record as it is
 
 def with_zeros(zero, weights, count, last):
@@ -210,8 +217,9 @@ def slips():
     """The exact sums go to total 120, with the windows' chances by START as it is."""
     amounts = exact.amounts(exact.poisson(MEAN * HALF), WEIGHTS, 1, 120)
     yield where(near([E_1 ** 2 * sum(amounts)], [E_1]) and job(CLOSED, NO_CLAIMS).low_start == math.floor(UNIT * E_1 ** 2),
-                f"Here a larger LAST does not help: every chance is e^-1 times the right one, so all of them come to e^-1 = {cut(E_1, 9)} "
-                f"and not to 1.")
+                f"That does not help here: every chance is e^-1 times the right one, so all of them come to e^-1 = {cut(E_1, 9)} and not "
+                f"to 1.")
+    yield f'The sentence ends with what is wrong: "{remark(ZERO)}"'
     number, place = lines("two_groups.txt", ZERO_GROUPS)[0].split()[1:]
     yield where(place == "0", f"Refusal {number} says just that: the weight of size 0 is not 0, and the order is above 1.")
     yield f"Someone writes `{ZERO_6_3}` in `{CLOSED}` and leaves all else."

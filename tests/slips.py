@@ -53,8 +53,6 @@ PLAIN = {
     "k larger than the terms": (23, with_line(1, "LAW 2 1")),
     "k smaller than the terms": (23, text("LAW 1 1", "TERM 0 1", *SMALL[1:])),
     "another keyword": (23, with_line(4, "LIMIT 3")),
-    "no ZERO line, as in older sheets": (23, text(*SMALL[:4], *SMALL[5:])),
-    "the ZERO line behind the weights": (23, text(*SMALL[:4], *SMALL[5:], SMALL[4])),
     "a weight of size 0 for each size": (23, with_line(5, "ZERO 0 0")),
     "a number missing": (23, with_line(3, "START 367879441")),
     "only the keyword of the last line": (23, with_line(8, "W")),
@@ -78,6 +76,8 @@ PLAIN = {
 # What beginners write: the number, the remedy that fits, by its name in refusals.ini, and the sheet.
 SEEN = {
     "line ends of an old Mac": (22, "line ends of old Macs", text(*SMALL).replace(b"\n", b"\r")),
+    "no ZERO line": (23, "older sheet", text(*SMALL[:4], *SMALL[5:])),
+    "the ZERO line behind the weights": (23, "older sheet", text(*SMALL[:4], *SMALL[5:], SMALL[4])),
     "a comma between numbers": (23, "other separators", with_line(2, "TERM 0,1")),
     "a semicolon between numbers": (23, "other separators", with_line(2, "TERM 0;1")),
     "a space that does not break": (23, "other separators", with_line(2, "TERM 0\u00a01")),
@@ -105,6 +105,7 @@ SEEN = {
     "a line of spaces": (23, "empty", text(*SMALL[:6], "  ", *SMALL[6:])),
     "a line of tabs": (23, "empty", text(*SMALL[:6], "\t\t", *SMALL[6:])),
     "lower case": (23, "lower case", text(*SMALL).lower()),
+    "ZERO in lower case": (23, "lower case", with_line(5, "zero 0")),
     "one capital alone": (23, "lower case", with_line(6, "Severity 2")),
     "lower case on the last line": (23, "lower case", with_line(LAST, "w 1")),
     "two spaces on the first line": (23, "spaces", with_line(FIRST, "LAW 1  1")),
