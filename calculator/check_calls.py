@@ -72,7 +72,7 @@ def differences(asked, said):
 def reader_call(case):
     read = read_sheet(case.sheet, case.places)
     job = read.job
-    numbers = [job.order, job.divisor, *job.a, *job.b, job.low_start, job.high_start, job.last, len(job.weights)]
+    numbers = [job.order, job.divisor, *job.a, *job.b, job.low_start, job.high_start, job.last, job.zero, len(job.weights)]
     weights = [f"{y}={w}" for y, w in enumerate(job.weights, 1)]
     word = [f"{byte:02x}" for byte in read.word]
     return Call(
@@ -113,7 +113,8 @@ def curve_call(case):
     faults, levels, payments = exact_checks(case, lent) if said == (0, 0) else ([], [], [])
     return Call(
         case.name,
-        words(2, job.order, job.divisor, *job.a, *job.b, job.low_start, job.high_start, job.last) + counted(job.weights) + words(*places),
+        words(2, job.order, job.divisor, *job.a, *job.b, job.low_start, job.high_start, job.last, job.zero) + counted(job.weights)
+        + words(*places),
         line(said, *map(written, (lent.low, lent.high, lent.bound, lent.work))),
         [*curve_faults(case, said, lent), *faults],
         levels,
