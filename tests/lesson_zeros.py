@@ -1,5 +1,5 @@
 """The sentences of part 6 of docs/CLASS.md that have numbers, as lesson_numbers.py has those of the other parts. What holds for every law
-of order 1 is tried for many. Chances with claims of size 0 are counted here claim by claim, by the record as it is."""
+of order 1 is tried for many. Chances with claims of size 0 are counted by the record as it is, with claims of size 0 among the others."""
 import math
 from fractions import Fraction
 from itertools import product
@@ -14,13 +14,13 @@ from layer import less_saved
 from limits import UNIT
 from nearest import nine_digits
 from outward import Job, thinned_divisor
+from summed import convolutions
 
 CLOSED = "closed.txt"
 # The record: so many claims a year on average, and the weights of size 0 and of the others.
 MEAN, ZERO, WEIGHTS = 2, 2, (1, 1)
 # Other lines: START as the chance of no claims, those of questions 6.2 and 6.3, and a weight of size 0 for two groups.
 NO_CLAIMS, OTHER_6_2, ZERO_6_3, ZERO_GROUPS = Law(MEAN, 1).line(), f"{Law(21, 40, 3).line()}{AND}ZERO 1", "ZERO 0", "ZERO 2"
-
 
 
 def remark(zero):
@@ -31,20 +31,10 @@ def remark(zero):
 
 # ---- chances, by the record as it is
 
-def with_zeros(zero, weights, count, last):
-    """For n from 0 to `count`: the chances that n claims come to 0, 1, .. `last`, where some of them may be 0."""
-    whole = zero + sum(weights)
-    sizes = [(size, Fraction(weight, whole)) for size, weight in enumerate((zero, *weights))]
-    row = [Fraction(1)] + [Fraction(0)] * last
-    for _ in range(count + 1):
-        yield row
-        row = [sum(chance * row[total - size] for size, chance in sizes if size <= total) for total in range(last + 1)]
-
-
 def counted(law, none, zero, weights, count, last):
-    """The chances of the totals, by up to `count` claims."""
+    """The chances of the totals, by up to `count` claims; `none` is that of no claims."""
     sums = [Fraction(0)] * (last + 1)
-    for n, row in enumerate(with_zeros(zero, weights, count, last)):
+    for n, row in zip(range(count + 1), convolutions([zero, *weights], last)):
         sums = [so_far + none * law(n) * chance for so_far, chance in zip(sums, row)]
     return sums
 
@@ -59,26 +49,26 @@ def near(first, second):
 def without_zeros(read):
     """By the rule of the lesson, a and b times (1 - q)/(1 - a q); with the smallest numbers that say it."""
     q = Fraction(read.zero, read.zero + sum(read.weights))
-    a, b = Fraction(read.a[0], read.divisor), Fraction(read.b[0], read.divisor)
-    a, b = (term * (1 - q) / (1 - a * q) for term in (a, b))
+    a, b = exact.not_zero(Fraction(read.a[0], read.divisor), Fraction(read.b[0], read.divisor), q)
     divisor = math.lcm(a.denominator, b.denominator)
     terms = ([int(divisor * term), 0, 0, 0] for term in (a, b))
     weights = [weight // math.gcd(*read.weights) for weight in read.weights]
     return Job(1, divisor, *terms, read.low_start, read.high_start, weights, read.last)
 
 
-def true_laws():
-    """Jobs whose A is below D, with zeros: both signs of A, weights of one size and of several, starts with a gap and without."""
+def some_jobs():
+    """With zeros: A below 0, 0 and above, weights of one size and of several, starts with a gap and without."""
     tables = [1], [2], [3], [1, 1], [2, 1], [0, 1], [3, 0, 2]
-    for divisor, a, zero, weights in product((1, 2, 3), (-3, -2, -1, 0, 1, 2), (1, 2, 3), tables):
+    for divisor, a, zero, weights in product((1, 2, 3), range(-3, 4), (1, 2, 3), tables):
         for b, start in product((0, 1, 3, 6), ((UNIT // 4, UNIT // 4), (1_234_567, 1_234_569))):
-            if a < divisor:
-                yield Job(1, divisor, [a, 0, 0, 0], [b, 0, 0, 0], *start, weights, 7, zero)
+            read = Job(1, divisor, [a, 0, 0, 0], [b, 0, 0, 0], *start, weights, 7, zero)
+            if thinned_divisor(read) > 0:
+                yield read
 
 
 def pairs():
     """Each with the job without its zeros, and the entries of row 0 of both."""
-    for read in true_laws():
+    for read in some_jobs():
         other = without_zeros(read)
         yield read, other, *([entry for entry, in entries(of, of.last)] for of in (read, other))
 
@@ -89,15 +79,16 @@ def same_ends():
 
 
 def bound_case():
-    """Bounds are others just where the sheet without zeros has D and W 1: by the one at total 1, and there are cases where later ones are
-    larger too; none is smaller."""
+    """Where A is below D, bounds are others just where the sheet without zeros has D and W 1: by the one at total 1, in some cases at later
+    totals too, and never smaller."""
     later = False
     for read, other, found, without in pairs():
         more = [entry[2] - without[total][2] for total, entry in enumerate(found)]
         alone = other.divisor == sum(other.weights) == 1
-        if thinned_divisor(read) < 2 or any(number < 0 for number in more) or more[1] != alone or any(more) != alone:
-            return False
-        later = later or any(more[2:])
+        if read.a[0] < read.divisor:
+            if thinned_divisor(read) < 2 or min(more) < 0 or more[1] != alone or any(more) != alone:
+                return False
+            later = later or any(more[2:])
     return later
 
 
