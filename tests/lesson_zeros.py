@@ -216,7 +216,7 @@ def slips():
     yield f"Someone writes `{ZERO_6_3}` in `{CLOSED}` and leaves all else."
     amounts = exact.amounts(exact.poisson(MEAN), WEIGHTS, E_1, 120)
     yield where(near([sum(amounts)], [1 / E_1]),
-                f"By this sheet both claims of a year cost something, so START should be e^-2, and it is e^-1. Every chance is e times too "
+                f"By this sheet every claim costs something, so START should be e^-2, and it is e^-1. Every chance is e times too "
                 f"large, and all of them come to e = {cut(1 / E_1, 9)}")
 
 
