@@ -5,7 +5,8 @@ use native.Mathlib.Nat as NL
 use native.Mathlib.Omega.{arith}
 use lib.IntN.{ℤ, pos, negsuc, negℤ, _-ℤ_, _*ℤ_}
 use lib.Signed.{_≤ℤ_, ≤ℤ-refl}
-use Rattle.algebra.proofs.Integer.{up, down, signed, split-add, split-mul, split-neg}
+use Rattle.algebra.specs.Parts.{up, down}
+use Rattle.algebra.proofs.Integer.{signed, split-add, split-mul, split-neg}
 use Rattle.model.specs.declared.Job.{Job}
 use Rattle.exact.specs.JobAmount.{Divisible}
 use Rattle.outward.specs.Division.{floorDiv, ceilDiv}

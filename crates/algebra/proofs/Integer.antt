@@ -10,17 +10,9 @@ use borrow.Author.Tests.{le-ltb}
 use lib.Dec.{T, T-prop, ltb, ltb→lt, lt→ltb, leb→le, le→leb, nltb→le}
 use lib.IntN.{ℤ, pos, negsuc, negℤ, natAbs, subℕ, _+ℤ_, _*ℤ_, +ℤ-comm, +ℤ-assoc, +ℤ-idr, +ℤ-invr, *ℤ-comm, *ℤ-zero}
 use lib.Signed.{_≤ℤ_, _<ℤ_, leZ, ltZ, ≤ℤ-refl}
+use Rattle.algebra.specs.Parts.{up, down}
 use Rattle.algebra.specs.Ring.{Ring}
 use Rattle.algebra.specs.Order.{OrderedRing}
-
--- what z is above zero, and below zero
-abbrev pub up : ℤ → ℕ
-up (pos n) = n
-up (negsuc n) = 0
-
-abbrev pub down : ℤ → ℕ
-down (pos n) = 0
-down (negsuc n) = suc n
 
 -- ---- order and equality, by the parts
 not-below : (a b : ℕ) → a + suc b ≤ 0 → ⊥

@@ -6,6 +6,7 @@ use Prim.Native.Nat.{ℕ, zero, suc, _≤_, _<_, _+_, _-_}
 use native.Mathlib.Nat as NL
 use lib.IntN.{ℤ, pos, _+ℤ_}
 use lib.Signed.{_≤ℤ_}
+use Rattle.algebra.specs.Parts.{up, down}
 use Rattle.algebra.specs.Semiring.{Semiring, nat}
 use Rattle.algebra.specs.Ring.{Ring, int}
 use Rattle.algebra.specs.Order.{OrderedRing}
@@ -15,7 +16,7 @@ use Rattle.algebra.proofs.Semiring.{nat-zero, nat-suc}
 use Rattle.algebra.proofs.Ring.{int-pos, int-add}
 use Rattle.algebra.proofs.Solver.{solve}
 use Rattle.algebra.proofs.Sum.{sum-related}
-use Rattle.algebra.proofs.Integer.{up, down, signed, split-add, pos-mono}
+use Rattle.algebra.proofs.Integer.{signed, split-add, pos-mono}
 
 module _ (O : OrderedRing) where
   open OrderedRing O using (_⊑_)
@@ -39,10 +40,10 @@ module _ (O : OrderedRing) where
   add-mono {a} {b} {c} {d} h k =
       O .le-trans (O .add-le c h) (rewritten (O .add-le b k) (R .semiring .add-comm c b) (R .semiring .add-comm d b))
 
-  difference : {a b : A} → a ⊑ b → 𝟘 ⊑ b ⊹ neg a
+  pub difference : {a b : A} → a ⊑ b → 𝟘 ⊑ b ⊹ neg a
   difference {a} h = rewritten (O .add-le (neg a) h) (R .add-neg a) refl
 
-  of-difference : {a b : A} → 𝟘 ⊑ b ⊹ neg a → a ⊑ b
+  pub of-difference : {a b : A} → 𝟘 ⊑ b ⊹ neg a → a ⊑ b
   of-difference {a} {b} h = rewritten (O .add-le a h)
       (solve R (a ∷ []) (null :+ var 0) (var 0) tt)
       (solve R (a ∷ b ∷ []) (var 1 :+ :- var 0 :+ var 0) (var 1) tt)

@@ -2,10 +2,11 @@
 use mathlib.Core.Path.{_≡_, refl, sym, _∙_, ap, ap₂}
 use Prim.Native.Nat.{ℕ, suc}
 use lib.IntN.{ℤ, pos, negsuc, negℤ, _+ℤ_, _*ℤ_}
+use Rattle.algebra.specs.Parts.{up, down}
 use Rattle.algebra.specs.Semiring.{Semiring, nat}
 use Rattle.algebra.specs.Ring.{Ring, int}
 use Rattle.algebra.proofs.Semiring.{ring, ⊹-comm, ⊹-assoc, add-left-comm, zero-add, zero-mul, add-mul, nat-zero, nat-add, nat-mul}
-use Rattle.algebra.proofs.Integer.{up, down, split-add, split-mul, split-neg}
+use Rattle.algebra.proofs.Integer.{split-add, split-mul, split-neg}
 
 module _ (R : Ring) where
   open Semiring (R .semiring) using (carrier as A, 𝟘, 𝟙, _⊹_, _·_)

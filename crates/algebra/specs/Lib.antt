@@ -1,5 +1,6 @@
 -- Algebra: what the other crates cite. Definitions and statements are here, their proofs stand in proofs/.
 pub mod Induction
+pub mod Parts
 pub mod Semiring
 pub mod Ring
 pub mod Order

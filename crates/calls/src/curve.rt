@@ -1,6 +1,6 @@
-// The curve call. Its record: k, D, A_1 to A_4, B_1 to B_4, s, t, X, the number of weights, the weights, and how many places of the low,
-// the high, the bound and the work row are lent. Its line: number and place; then, for each of these rows, the places that were written,
-// also past those that were lent, and what they hold.
+// The curve call. Its record: k, D, A_1 to A_4, B_1 to B_4, s, t, X, w(0), the number of weights, the weights, and how many places of the
+// low, the high, the bound and the work row are lent. Its line: number and place; then, for each of these rows, the places that were
+// written, also past those that were lent, and what they hold.
 
 use crate::input;
 use crate::show;
@@ -49,7 +49,13 @@ fn read_job() -> Job {
     let law = read_law();
     let start = read_start();
     let last = input::number();
-    Job { law, start, last }
+    let zero = input::number();
+    Job {
+        law,
+        start,
+        last,
+        zero,
+    }
 }
 
 fn show_answer(answer: CurveAnswer) {

@@ -1,6 +1,6 @@
 // The sheet reader and the faulty word's call. Their record: how many places of the row for weights are lent, the number of the sheet's
-// bytes, and the bytes. Their line: number and line; the job and the count of its weights; the places of the row that were written, from 1,
-// and what they hold; the bytes of the faulty word.
+// bytes, and the bytes. Their line: number and line; the job, from k to w(0) as in the record of the curve call, and the count of its
+// weights; the places of the row that were written, from 1, and what they hold; the bytes of the faulty word.
 
 use crate::input;
 use crate::show;
@@ -35,6 +35,7 @@ fn show_job(job: Job) {
     let start = job.start;
     show_start(start);
     show::next(job.last);
+    show::next(job.zero);
 }
 
 fn show_read(read: SheetRead) {

@@ -21,7 +21,8 @@ use Rattle.rows.specs.Progress.{Kept, Filled}
 use Rattle.rows.proofs.Kept.{kept-written, kept-listed}
 use Rattle.rows.proofs.Stored.{same-lent}
 use Rattle.compound.specs.declared.Reason.{Reason}
-use Rattle.compound.specs.declared.Reason.the-variants.{Order, Divisor, Term, Start, Severities, Weights, Last, Places, Range, Bound}
+use Rattle.compound.specs.declared.Reason.the-variants.{Order, Divisor, Term, Start, Severities, Weights}
+use Rattle.compound.specs.declared.Reason.the-variants.{ZeroOrder, ZeroDivisor, OnlyZeros, Last, Places, Range, Bound}
 use Rattle.compound.specs.declared.CurveAnswer.{CurveAnswer}
 use Rattle.compound.specs.declared.CurveAnswer.the-variants.{Accepted, Refused}
 use Rattle.compound.specs.Call.{numberOf, paper, checks, faults, curveAnswer, rowAfter, ran, curveLent}
@@ -35,6 +36,9 @@ reason-refuses Term = refl
 reason-refuses Start = refl
 reason-refuses Severities = refl
 reason-refuses Weights = refl
+reason-refuses ZeroOrder = refl
+reason-refuses ZeroDivisor = refl
+reason-refuses OnlyZeros = refl
 reason-refuses Last = refl
 reason-refuses Places = refl
 reason-refuses Range = refl

@@ -1,13 +1,14 @@
 -- The curve call: "Takes the job, three lent rows (low, high, bound) and a work row."
-use mathlib.Core.Bool.{Bool, _||_, cond}
+use mathlib.Core.Bool.{Bool, _&&_, _||_, cond}
 use mathlib.Core.List.{List, [], _∷_, _++_}
 use Prim.Native.Nat.{ℕ, _+_}
-use lib.Dec.{ltb}
+use lib.Dec.{ltb, eqb}
 use lib.IntN.{ℤ, pos}
 use lib.ListN.{length, getD, replicate}
 use Rattle.algebra.specs.Slice.{listed, written}
 use Rattle.algebra.specs.Smallest.{smallest}
-use Rattle.model.specs.Weights.{totalWeight}
+use Rattle.model.specs.Weights.{totalWeight, allWeight}
+use Rattle.model.specs.Job.{jobDivisor}
 use Rattle.model.specs.declared.Law.{Law}
 use Rattle.model.specs.declared.Start.{Start}
 use Rattle.model.specs.declared.Job.{Job}
@@ -18,8 +19,8 @@ use Rattle.rows.specs.Curve.{curveRows}
 use Rattle.rows.specs.Faults.{firstFault, rangeFault}
 use Rattle.rows.specs.Layout.{Lent, workPlaces}
 use Rattle.compound.specs.declared.Reason.{Reason}
-use Rattle.compound.specs.declared.Reason.the-variants.{Order, Divisor, Term, Start as StartReason, Severities, Weights, Last}
-use Rattle.compound.specs.declared.Reason.the-variants.{Places, Range, Bound}
+use Rattle.compound.specs.declared.Reason.the-variants.{Order, Divisor, Term, Start as StartReason, Severities, Weights}
+use Rattle.compound.specs.declared.Reason.the-variants.{ZeroOrder, ZeroDivisor, OnlyZeros, Last, Places, Range, Bound}
 use Rattle.compound.specs.declared.CurveAnswer.{CurveAnswer}
 use Rattle.compound.specs.declared.CurveAnswer.the-variants.{Accepted, Refused}
 
@@ -31,6 +32,9 @@ numberOf Term = 3
 numberOf StartReason = 4
 numberOf Severities = 5
 numberOf Weights = 6
+numberOf ZeroOrder = 11
+numberOf ZeroDivisor = 12
+numberOf OnlyZeros = 13
 numberOf Last = 7
 numberOf Places = 8
 numberOf Range = 9
@@ -65,17 +69,35 @@ abbrev pub tooShort : ℕ → Lent → Bool
 tooShort places lent = shorter places (lent .low) || shorter places (lent .high) || shorter places (lent .bound)
     || shorter (workPlaces places) (lent .work)
 
-abbrev pub checks : Job → List ℕ → Lent → List Condition
-checks job weights lent =
+-- of the law, the start and the table
+abbrev pub jobChecks : Job → List ℕ → List Condition
+jobChecks job weights =
     condition (outside 1 mostOrder (job .law .order)) 1 0
     ∷ condition (outside 1 1000 (job .law .divisor)) 2 0
     ∷ condition (ltb (firstWrongTerm (job .law)) mostOrder) 3 (firstWrongTerm (job .law) + 1)
     ∷ condition (wrongStart (job .start)) 4 0
     ∷ condition (outside 1 mostSeverities (length weights)) 5 0
-    ∷ condition (outside 1 1000 (totalWeight weights)) 6 0
-    ∷ condition (ltb mostLast (job .last)) 7 0
+    ∷ condition (outside 1 1000 (allWeight (job .zero) weights)) 6 0
+    ∷ []
+
+-- "11, after 6, a nonzero weight at 0 when k is above 1, then 12 a D times W - A times w(0) of zero or less, then 13 a table whose other
+-- weights are all 0"
+abbrev pub zeroChecks : Job → List ℕ → List Condition
+zeroChecks job weights =
+    condition (ltb 0 (job .zero) && ltb 1 (job .law .order)) 11 0
+    ∷ condition (eqb (jobDivisor job weights) 0) 12 0
+    ∷ condition (eqb (totalWeight weights) 0) 13 0
+    ∷ []
+
+-- of the last total and the rows for the answer
+abbrev pub roomChecks : Job → Lent → List Condition
+roomChecks job lent =
+    condition (ltb mostLast (job .last)) 7 0
     ∷ condition (tooShort (job .last + 1) lent) 8 0
     ∷ []
+
+abbrev pub checks : Job → List ℕ → Lent → List Condition
+checks job weights lent = jobChecks job weights ++ (zeroChecks job weights ++ roomChecks job lent)
 
 -- ---- "9: at the smallest x that has a fault, a low or high of any row lies outside -2U to 2U. 10: at that x none does, but a bound of any
 -- row is above U."
@@ -104,6 +126,6 @@ ran job weights lent = record {
   work = written (replicate (workPlaces (job .last + 1)) (pos 0)) (lent .work);
 }
 
--- what the lent rows hold on return; 1 to 8 "write nothing"
+-- what the lent rows hold on return; 1 to 8, and 11 to 13 among them, "write nothing"
 unfoldable pub curveLent : Job → List ℕ → Lent → Lent
 curveLent job weights lent = cond (isAccepted (firstOf (checks job weights lent))) (ran job weights lent) lent

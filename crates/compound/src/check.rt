@@ -1,4 +1,4 @@
-// Refusals 1 to 8, in the paper's order: what is known before anything is written.
+// Refusals 1 to 8, with 11 to 13 after 6, in the paper's order: what is known before anything is written.
 
 use super::CurveAnswer;
 use super::Reason;
@@ -12,24 +12,27 @@ use model::limits::UNIT;
 use model::limits::is_either_beyond;
 use model::limits::is_outside;
 use rows::layout::WORK_COLUMNS;
+use rows::total::Divisors;
 ghost use mathlib.Core.Path.{_≡_};
-ghost use mathlib.Core.Bool.{true, _||_};
-ghost use Prim.Native.Nat.{_≤_, min};
-ghost use lib.IntN.{pos};
-ghost use Rattle.model.specs.Weights.{totalWeight};
+ghost use mathlib.Core.Bool.{true, _&&_, _||_};
+ghost use Prim.Native.Nat.{_+_, _≤_, min};
+ghost use lib.Dec.{ltb};
+ghost use lib.IntN.{pos, natAbs};
+ghost use Rattle.model.specs.Weights.{totalWeight, thinnedDivisor};
 ghost use Rattle.model.specs.Answer.{isAccepted, firstOf};
 ghost use Rattle.model.specs.Limits.{mostTotals, beyond};
 ghost use Rattle.rows.specs.Layout.{lentRows};
+ghost use Rattle.rows.specs.Progress.{divisorsOf};
 ghost use Rattle.compound.specs.Call.{termLimit, firstWrongTerm, wrongStart, tooShort, paper, checks};
 ghost use Rattle.compound.specs.Checked.{refusedBy};
 
 // The largest sum of weights that is told apart: one more than a table may have.
 const WEIGHT_CAP: u64 = 1001;
 
-// What the checks found: their answer, and after an acceptance the sum of the weights.
+// What the checks found: their answer, and after an acceptance the divisors.
 pub struct Checked {
     pub answer: CurveAnswer,
-    pub total: u64,
+    pub divisors: Divisors,
 }
 
 // The size that the numbers of term `i` + 1 may have: a term past the order is zero.
@@ -66,7 +69,7 @@ fn is_wrong_start(start: Start) -> bool
     start.high < start.low || is_outside(1, UNIT as u64, start.high)
 }
 
-// The sum of the weights, as far as the cap: it does not overflow whatever the weights are.
+// The sum of a row of weights, as far as the cap: it does not overflow whatever the weights are.
 fn total_weight(weights: &[u64]) -> u64
     ensures { λ r. ⌜ r ≡ min (totalWeight (now (weights .entry))) 1001 ⌝ }
 {
@@ -79,6 +82,35 @@ fn total_weight(weights: &[u64]) -> u64
         total += weight;
     }
     total
+}
+
+// The same with the weight of severity 0.
+fn with_zero(zero: u64, total: u64) -> u64
+    requires { ⌜ total ≤ 1001 ⌝ }
+    ensures { λ r. ⌜ r ≡ min (zero + total) 1001 ⌝ }
+{
+    if WEIGHT_CAP - total < zero {
+        return WEIGHT_CAP;
+    }
+    zero + total
+}
+
+fn is_zero_order(zero: u64, order: u64) -> bool
+    ensures { λ r. ⌜ r ≡ (ltb 0 zero && ltb 1 order) ⌝ }
+{
+    0 < zero && 1 < order
+}
+
+// D W - A w(0), and 0 where that is below; `total` is W.
+fn thinned_divisor(divisor: u64, a: i64, zero: u64, total: u64) -> u64
+    requires { ⌜ (divisor ≤ 1000) × (natAbs a ≤ 1000) × (zero ≤ 1000) × (total ≤ 1000) ⌝ }
+    ensures { λ r. ⌜ r ≡ thinnedDivisor divisor a zero total ⌝ }
+{
+    let thinned = (divisor * total) as i64 - a * zero as i64;
+    if thinned < 0 {
+        return 0;
+    }
+    thinned as u64
 }
 
 fn is_too_short(places: usize, low: &[i64], high: &[i64], bound: &[i64], work: &[i64]) -> bool
@@ -97,13 +129,16 @@ fn is_too_short(places: usize, low: &[i64], high: &[i64], bound: &[i64], work: &
     work.len() < WORK_COLUMNS * places
 }
 
-// A refusal, which tells no sum.
+// A refusal, which tells no divisors.
 fn refused(reason: Reason, place: usize) -> Checked
     ensures { λ r. ⌜ r ≡ refusedBy reason place ⌝ }
 {
     Checked {
         answer: CurveAnswer::Refused(reason, place),
-        total: 0,
+        divisors: Divisors {
+            first: 0,
+            further: 0,
+        },
     }
 }
 
@@ -118,7 +153,7 @@ pub fn check(
 ) -> Checked
     ensures answer { λ r. ⌜ paper (r .answer) ≡ firstOf (checks job (now (weights .entry))
         (lentRows (now (low .entry)) (now (high .entry)) (now (bound .entry)) (now (work .entry)))) ⌝ }
-    ensures total { λ r. ⌜ (isAccepted (paper (r .answer)) ≡ true → r .total ≡ totalWeight (now (weights .entry))) ⌝ }
+    ensures divisors { λ r. ⌜ (isAccepted (paper (r .answer)) ≡ true → r .divisors ≡ divisorsOf job (now (weights .entry))) ⌝ }
 {
     if is_outside(1, MOST_ORDER, job.law.order) {
         return refused(Reason::Order, 0);
@@ -136,9 +171,21 @@ pub fn check(
     if is_outside(1, MOST_SEVERITIES as u64, weights.len() as u64) {
         return refused(Reason::Severities, 0);
     }
-    let total = total_weight(weights);
+    let row = total_weight(weights);
+    let total = with_zero(job.zero, row);
     if is_outside(1, 1000, total) {
         return refused(Reason::Weights, 0);
+    }
+    if is_zero_order(job.zero, job.law.order) {
+        return refused(Reason::ZeroOrder, 0);
+    }
+    let terms = job.law.a;
+    let first = thinned_divisor(job.law.divisor, terms[0], job.zero, total);
+    if first == 0 {
+        return refused(Reason::ZeroDivisor, 0);
+    }
+    if row == 0 {
+        return refused(Reason::OnlyZeros, 0);
     }
     if (MOST_LAST as u64) < job.last {
         return refused(Reason::Last, 0);
@@ -149,6 +196,9 @@ pub fn check(
     }
     Checked {
         answer: CurveAnswer::Accepted,
-        total,
+        divisors: Divisors {
+            first,
+            further: total,
+        },
     }
 }

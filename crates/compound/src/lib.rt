@@ -24,6 +24,9 @@ pub enum Reason {
     Start,
     Severities,
     Weights,
+    ZeroOrder,
+    ZeroDivisor,
+    OnlyZeros,
     Last,
     Places,
     Range,
@@ -47,6 +50,9 @@ pub fn reason_number(reason: Reason) -> u64
         Reason::Start => 4,
         Reason::Severities => 5,
         Reason::Weights => 6,
+        Reason::ZeroOrder => 11,
+        Reason::ZeroDivisor => 12,
+        Reason::OnlyZeros => 13,
         Reason::Last => 7,
         Reason::Places => 8,
         Reason::Range => 9,
@@ -104,7 +110,7 @@ pub fn curve(
         return answer;
     }
     let places = job.last as usize + 1;
-    let stop = fill(job, checked.total, weights, low, high, bound, work);
+    let stop = fill(job, checked.divisors, weights, low, high, bound, work);
     clear(work, WORK_COLUMNS * places);
     if stop.total < places {
         clear(low, places);

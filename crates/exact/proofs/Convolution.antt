@@ -151,7 +151,7 @@ module _ (R : Semiring) where
     unfolding weighedFirst
     weighedFirst-vanishes m x h = convolve-vanishes (weighed f) (power f m) x (λ z l. power-vanishes m z (omega arith))
 
-    one-more : (m : ℕ) (s : A) → s ⊹ nat R m · s ≡ nat R (suc m) · s
+    pub one-more : (m : ℕ) (s : A) → s ⊹ nat R m · s ≡ nat R (suc m) · s
     one-more m s = sym (rw nat-suc (simp (ring, ring-units)))
 
     -- each of the m + 1 severities has the same share in their sum x

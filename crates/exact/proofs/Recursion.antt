@@ -14,7 +14,7 @@ use Rattle.algebra.proofs.Sum.{sum-zero, sum-cong, sum-scale, sum-cut}
 use Rattle.algebra.specs.Fraction.{Fraction, over, overSuc, zeroTo}
 use Rattle.algebra.proofs.Value.{order, ℚ, value, eq-of-value, value-plus, value-times, value-oneTo}
 use Rattle.algebra.proofs.Value.{value-int, value-nat, value-zero, value-one, value-over, value-overSuc}
-use Rattle.model.specs.Weights.{totalWeight, divisorZero}
+use Rattle.model.specs.Weights.{totalWeight}
 use Rattle.exact.specs.Frequency.{Frequency, a, b, countCoefficient}
 use Rattle.exact.specs.Severity.{Severity, weight, density, convolution}
 use Rattle.exact.specs.Amount.{exactAmount}
@@ -28,11 +28,11 @@ open Semiring ℚ using (carrier as A, 𝟘, _⊹_, _·_)
 infixl 6 _⊹_
 infixl 7 _·_
 -- the integer z as a rational number
-abbrev integer : ℤ → A
+abbrev pub integer : ℤ → A
 integer = int (order .ring)
 
 -- D W ((x a + y b) f e) is (A x + B y) w e, where D a = A, D b = B and W f = w
-cleared : (D W x y a b f e A′ B′ w : A) → D · a ≡ A′ → D · b ≡ B′ → W · f ≡ w
+pub cleared : (D W x y a b f e A′ B′ w : A) → D · a ≡ A′ → D · b ≡ B′ → W · f ≡ w
     → D · W · ((x · a ⊹ y · b) · f · e) ≡ (A′ · x ⊹ B′ · y) · w · e
 cleared D W x y a b f e A′ B′ w p q r =
     spread ∙ ap₂ (λ (u v : A). (u · x ⊹ v · y) · (W · f) · e) p q ∙ ap (λ (u : A). (A′ · x ⊹ B′ · y) · u · e) r
@@ -43,13 +43,13 @@ cleared D W x y a b f e A′ B′ w p q r =
 turned : (D x W e : A) → D · x · W · e ≡ D · W · (x · e)
 turned D x W e = simp ring
 
-int-factor : (law : Frequency) (table : Severity) (x i y : ℕ) → integer (wholeFactor law table x i y)
+pub int-factor : (law : Frequency) (table : Severity) (x i y : ℕ) → integer (wholeFactor law table x i y)
     ≡ (integer (law .termA i) · nat ℚ x ⊹ integer (law .termB i) · nat ℚ y) · nat ℚ (weight table y)
 unfolding wholeFactor
 int-factor law table x i y = simp (int-mul, int-add, int-pos)
 
 -- past the table's end there is no weight
-weight-past : (table : Severity) (y : ℕ) → length (table .weights) ≤ y → weight table (suc y) ≡ 0
+pub weight-past : (table : Severity) (y : ℕ) → length (table .weights) ≤ y → weight table (suc y) ≡ 0
 weight-past table y l = List·getD-eq-default (table .weights) 0 l
 
 module _ (law : Frequency) (table : Severity) (p : Fraction) where
@@ -101,10 +101,10 @@ module _ (law : Frequency) (table : Severity) (p : Fraction) where
   over-total y = value-over (pos (weight table y)) (totalWeight (table .weights)) (table .total-pos)
       ∙ int-pos (order .ring) (weight table y)
 
-  pub recursion-value : (x : ℕ) → nat ℚ (divisorZero (law .divisor) (totalWeight (table .weights)) x) · E 0 x
+  pub recursion-value : (x : ℕ) → nat ℚ (law .divisor * x * totalWeight (table .weights)) · E 0 x
       ≡ sum ℚ (law .order) (λ i. sum ℚ (min x (length (table .weights))) (λ y.
       integer (wholeFactor law table x (suc i) (suc y)) · E i (x - suc y)))
-  unfolding D W a b divisorZero
+  unfolding D W a b
   recursion-value x =
       ap (λ (v : A). v · E 0 x) (nat-mul ℚ (law .divisor * x) (totalWeight (table .weights))
       ∙ ap (λ (v : A). v · W) (nat-mul ℚ (law .divisor) x))
@@ -157,10 +157,10 @@ module _ (law : Frequency) (table : Severity) (p : Fraction) where
   first-further j = row-next ℚ (λ y. value (density table y)) P j 0 ∙ sum-zero ℚ _
 
 -- ---- the statements
-back : (i : ℕ) → suc i - 1 ≡ i
+pub back : (i : ℕ) → suc i - 1 ≡ i
 back i = omega arith
 
-ruleset values = (value-oneTo, value-times, value-plus, value-amount, value-row, value-nat, value-int, back)
+pub ruleset values = (value-oneTo, value-times, value-plus, value-amount, value-row, value-nat, value-int, back)
 
 pub published-recursion : PublishedRecursion
 published-recursion law table p x = eq-of-value (simp values (published-value law table p x))

@@ -2,6 +2,8 @@
 pub mod Frequency
 pub mod Severity
 pub mod Amount
-pub mod JobAmount
 pub mod Recursion
+pub mod Thinned
+pub mod JobAmount
+pub mod Zeros
 pub mod Cases

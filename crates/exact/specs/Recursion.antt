@@ -1,9 +1,9 @@
 -- Sundt's recursion for the exact amounts: what is claimed, for every order, every table and every starting chance.
-use Prim.Native.Nat.{ℕ, suc, _-_, min}
+use Prim.Native.Nat.{ℕ, suc, _-_, _*_, min}
 use lib.IntN.{ℤ, pos, _+ℤ_, _*ℤ_}
 use lib.ListN.{length}
 use Rattle.algebra.specs.Fraction.{Fraction, whole, _⊕_, _⊗_, overSuc, oneTo, _≈_}
-use Rattle.model.specs.Weights.{totalWeight, divisorZero}
+use Rattle.model.specs.Weights.{totalWeight}
 use Rattle.exact.specs.Frequency.{Frequency, a, b}
 use Rattle.exact.specs.Severity.{Severity, weight, density, convolution}
 use Rattle.exact.specs.Amount.{exactAmount, exactRow}
@@ -31,7 +31,7 @@ wholeFactor law table x i y = (law .termA i *ℤ pos x +ℤ law .termB i *ℤ po
 -- the row recursion with whole factors: "y from 1 to the smaller of x and m", "The divisor is D times x times W."
 abbrev pub WholeRecursion : Type 0
 WholeRecursion = (law : Frequency) (table : Severity) (p : Fraction) (x : ℕ)
-    → whole (pos (divisorZero (law .divisor) (totalWeight (table .weights)) x)) ⊗ exactAmount law table p x
+    → whole (pos (law .divisor * x * totalWeight (table .weights))) ⊗ exactAmount law table p x
     ≈ oneTo (law .order) (λ i. oneTo (min x (length (table .weights))) (λ y.
     whole (wholeFactor law table x i y) ⊗ exactRow law table p (i - 1) (x - y)))
 

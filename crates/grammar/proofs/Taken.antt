@@ -25,12 +25,12 @@ use Rattle.text.specs.Lines.{after, afterLines, lineAt}
 use Rattle.text.specs.Numbers.{AtMostTenDigits}
 use Rattle.text.specs.LineText.{lineText}
 use Rattle.text.proofs.Scan.{lines-last}
-use Rattle.lines.specs.Keywords.{LAW, TERM, START, LAST, SEVERITY, W}
+use Rattle.lines.specs.Keywords.{LAW, TERM, START, LAST, ZERO, SEVERITY, W}
 use Rattle.lines.specs.Line.{Line, numbers, faulty, allNumbers, line, signed, natural, numberWords, signsOn}
 use Rattle.lines.proofs.LineParsed.{Parsed, LineFacts, line-facts, pair, one-natural, two-natural}
 use Rattle.grammar.specs.Sheet.{termsText, weightsText, sheetText}
 use Rattle.grammar.specs.Reading.{Reading, reads, refuses, on, noTerms, withTerm, sheetOf}
-use Rattle.grammar.specs.Reading.{weightLines, severityLine, lastLine, startLine, termLines, lawLine, mostBytes, reading}
+use Rattle.grammar.specs.Reading.{weightLines, severityLine, zeroLine, lastLine, startLine, termLines, lawLine, mostBytes, reading}
 use Rattle.grammar.specs.Accepts.{Terms, Writable, TakesOnlyTexts, RefusalNumbers, NamesFaultyLine}
 
 -- ---- what is read, and its text
@@ -47,6 +47,7 @@ record JobFits (job : Job) : Type 0 where
   low : AtMostTenDigits (pos (job .start .low))
   high : AtMostTenDigits (pos (job .start .high))
   last : AtMostTenDigits (pos (job .last))
+  zero : AtMostTenDigits (pos (job .zero))
 
 writable : (job : Job) (ws : List ℕ) → JobFits job → 1 ≤ length ws → length ws ≤ mostSeverities
     → ((i : ℕ) → AtMostTenDigits (pos (getD ws i 0))) → Writable (sheetOf job ws)
@@ -59,6 +60,7 @@ writable job ws fits least most small = record {
   low = fits .low;
   high = fits .high;
   last = fits .last;
+  zero = fits .zero;
   count-least = least;
   count-most = most;
   weights = small;
@@ -70,8 +72,11 @@ lawText law i = lineText LAW (pos (law .order) ∷ pos (law .divisor) ∷ []) ++
 abbrev startText : Law → Start → List ℕ
 startText law start = lawText law (law .order) ++ lineText START (pos (start .low) ∷ pos (start .high) ∷ [])
 
+abbrev lastText : Law → Start → ℕ → List ℕ
+lastText law start last = startText law start ++ lineText LAST (pos last ∷ [])
+
 abbrev jobText : Job → List ℕ
-jobText job = startText (job .law) (job .start) ++ lineText LAST (pos (job .last) ∷ [])
+jobText job = lastText (job .law) (job .start) (job .last) ++ lineText ZERO (pos (job .zero) ∷ [])
 
 -- there are to be m weights, and the weights ws are read
 abbrev tableText : Job → ℕ → List ℕ → List ℕ
@@ -235,13 +240,21 @@ module _ (places : ℕ) (all : List ℕ) where
       weights job m fits (limits .0) (limits .1) (ltb-false places m room) [] m (n + 1) rest (omega arith) (λ i. lit< tt)
       (rw append-nil (rw (one-natural p) at there))
 
+  zero-weight : (law : Law) (start : Start) (last n : ℕ) (s : List ℕ) → LawFits law (law .order)
+      → AtMostTenDigits (pos (start .low)) → AtMostTenDigits (pos (start .high)) → AtMostTenDigits (pos last)
+      → Stands n (lastText law start last) s → Right (zeroLine places law start last n s)
+  unfolding zeroLine
+  zero-weight law start last n s fits low high last-small here = goes-on false ZERO 1 _ refl here λ zs rest p there.
+      severity (jobOf law start last (natural zs 0)) (n + 1) rest
+      (record { law = fits; low = low; high = high; last = last-small; zero = p .small 0 })
+      (rw (one-natural p) at there)
+
   last : (law : Law) (start : Start) (n : ℕ) (s : List ℕ) → LawFits law (law .order)
       → AtMostTenDigits (pos (start .low)) → AtMostTenDigits (pos (start .high)) → Stands n (startText law start) s
       → Right (lastLine places law start n s)
   unfolding lastLine
   last law start n s fits low high here = goes-on false LAST 1 _ refl here λ zs rest p there.
-      severity (jobOf law start (natural zs 0) 0) (n + 1) rest (record { law = fits; low = low; high = high; last = p .small 0 })
-      (rw (one-natural p) at there)
+      zero-weight law start (natural zs 0) (n + 1) rest fits low high (p .small 0) (rw (one-natural p) at there)
 
   start : (law : Law) (n : ℕ) (s : List ℕ) → LawFits law (law .order) → Stands n (lawText law (law .order)) s
       → Right (startLine places law n s)

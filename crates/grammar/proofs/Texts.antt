@@ -17,11 +17,11 @@ use Rattle.model.proofs.Tests.{inside}
 use Rattle.text.specs.Lines.{has}
 use Rattle.text.specs.Numbers.{AtMostTenDigits}
 use Rattle.text.specs.LineText.{lineText}
-use Rattle.lines.specs.Keywords.{LAW, TERM, START, LAST, SEVERITY, W}
+use Rattle.lines.specs.Keywords.{LAW, TERM, START, LAST, ZERO, SEVERITY, W}
 use Rattle.lines.proofs.LinePrinted.{Held, one, two, two-signed, line-printed, line-length}
 use Rattle.grammar.specs.Sheet.{Sheet, termsText, weightsText, sheetText}
 use Rattle.grammar.specs.Reading.{reads, noTerms, sheetOf}
-use Rattle.grammar.specs.Reading.{weightLines, severityLine, lastLine, startLine, termLines, lawLine, mostBytes, reading}
+use Rattle.grammar.specs.Reading.{weightLines, severityLine, zeroLine, lastLine, startLine, termLines, lawLine, mostBytes, reading}
 use Rattle.grammar.specs.Accepts.{Terms, Writable, TakesAllTexts, TextsFit}
 
 -- ---- what is known of a law as its terms are read
@@ -107,6 +107,9 @@ module _ (sheet : Sheet) (can : Writable sheet) where
   last-held : Held false (pos (sheet .job .last) ∷ [])
   last-held = one (can .last)
 
+  zero-held : Held false (pos (sheet .job .zero) ∷ [])
+  zero-held = one (can .zero)
+
   count-held : Held false (pos (length (sheet .weights)) ∷ [])
   count-held = one (omega arith)
 
@@ -120,6 +123,7 @@ texts-fit sheet can =
       terms-length law (can .a) (can .b) 0 (law .order),
       line-length START (start-held sheet can),
       line-length LAST (last-held sheet can),
+      line-length ZERO (zero-held sheet can),
       line-length SEVERITY (count-held sheet can),
       weights-length (sheet .weights) (can .weights),
     ))
@@ -130,7 +134,7 @@ some-text sheet = omega arith
 
 -- each line, and each limit, in the order of the reader
 pub takes-all-texts : TakesAllTexts
-unfolding reading lawLine startLine lastLine severityLine sheetText has
+unfolding reading lawLine startLine lastLine zeroLine severityLine sheetText has
 takes-all-texts places sheet can room =
     let law = sheet .job .law in
     let count = length (sheet .weights) in
@@ -141,6 +145,7 @@ takes-all-texts places sheet can room =
       terms-read law (can .a) (can .b),
       line-printed START (start-held sheet can) refl refl,
       line-printed LAST (last-held sheet can) refl refl,
+      line-printed ZERO (zero-held sheet can) refl refl,
       line-printed SEVERITY (count-held sheet can) refl refl,
       inside 1 mostSeverities count (can .count-least) (can .count-most),
       le-ltb places count room,

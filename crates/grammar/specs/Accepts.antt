@@ -29,6 +29,7 @@ pub record Writable (sheet : Sheet) : Type 0 where
   pub low : AtMostTenDigits (pos (sheet .job .start .low))
   pub high : AtMostTenDigits (pos (sheet .job .start .high))
   pub last : AtMostTenDigits (pos (sheet .job .last))
+  pub zero : AtMostTenDigits (pos (sheet .job .zero))
   pub count-least : 1 ≤ length (sheet .weights)
   pub count-most : length (sheet .weights) ≤ mostSeverities
   pub weights : (i : ℕ) → AtMostTenDigits (pos (getD (sheet .weights) i 0))

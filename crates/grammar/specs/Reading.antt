@@ -12,7 +12,7 @@ use Rattle.model.specs.declared.Start.{Start}
 use Rattle.model.specs.declared.Job.{Job}
 use Rattle.model.specs.Job.{lawOf, startOf, jobOf}
 use Rattle.model.specs.Limits.{mostOrder, mostSeverities, outside}
-use Rattle.lines.specs.Keywords.{LAW, TERM, START, LAST, SEVERITY, W}
+use Rattle.lines.specs.Keywords.{LAW, TERM, START, LAST, ZERO, SEVERITY, W}
 use Rattle.lines.specs.Line.{Line, numbers, faulty, line, signed, natural}
 use Rattle.grammar.specs.Sheet.{Sheet}
 
@@ -52,9 +52,12 @@ severityLine places job n s =
     (cond (ltb places (natural zs 0)) (refuses 27 n)
     (weightLines job [] (natural zs 0) (n + 1) rest)))
 
+unfoldable pub zeroLine : ℕ → Law → Start → ℕ → ℕ → List ℕ → Reading
+zeroLine places law start last n s =
+    on (line false ZERO 1 s) n (λ zs rest. severityLine places (jobOf law start last (natural zs 0)) (n + 1) rest)
+
 unfoldable pub lastLine : ℕ → Law → Start → ℕ → List ℕ → Reading
-lastLine places law start n s =
-    on (line false LAST 1 s) n (λ zs rest. severityLine places (jobOf law start (natural zs 0) 0) (n + 1) rest)
+lastLine places law start n s = on (line false LAST 1 s) n (λ zs rest. zeroLine places law start (natural zs 0) (n + 1) rest)
 
 unfoldable pub startLine : ℕ → Law → ℕ → List ℕ → Reading
 startLine places law n s =

@@ -1,5 +1,5 @@
 -- The numbers that a sheet holds, and the sheet as text: "Lines in order: `LAW k D`; k lines `TERM A B`; `START s t`; `LAST X`;
--- `SEVERITY m`; m lines `W w`."
+-- `ZERO w`; `SEVERITY m`; m lines `W w`."
 use mathlib.Core.List.{List, [], _∷_, _++_}
 use Prim.Native.Nat.{ℕ, zero, suc}
 use lib.IntN.{pos}
@@ -7,7 +7,7 @@ use lib.ListN.{length, getD}
 use Rattle.model.specs.declared.Law.{Law}
 use Rattle.model.specs.declared.Job.{Job}
 use Rattle.text.specs.LineText.{lineText}
-use Rattle.lines.specs.Keywords.{LAW, TERM, START, LAST, SEVERITY, W}
+use Rattle.lines.specs.Keywords.{LAW, TERM, START, LAST, ZERO, SEVERITY, W}
 
 -- a job and the weights of its table
 pub record Sheet : Type 0 where
@@ -31,5 +31,6 @@ sheetText sheet =
     ++ (termsText (job .law) 0 (job .law .order)
     ++ (lineText START (pos (job .start .low) ∷ pos (job .start .high) ∷ [])
     ++ (lineText LAST (pos (job .last) ∷ [])
+    ++ (lineText ZERO (pos (job .zero) ∷ [])
     ++ (lineText SEVERITY (pos (length (sheet .weights)) ∷ [])
-    ++ weightsText (sheet .weights)))))
+    ++ weightsText (sheet .weights))))))

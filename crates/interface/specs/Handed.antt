@@ -15,9 +15,9 @@ use Rattle.published.specs.Call.{Made}
 abbrev pub returned : ℕ → ℕ → Answer
 returned number place = record { number = number; place = place }
 
--- k, D, A_1..A_4, B_1..B_4, s, t and X
-abbrev pub jobOfNumbers : ℕ → ℕ → List ℤ → List ℤ → ℕ → ℕ → ℕ → Job
-jobOfNumbers order divisor a b low high last = jobOf (lawOf order divisor a b) (startOf low high) last
+-- k, D, A_1..A_4, B_1..B_4, s, t, X and w(0)
+abbrev pub jobOfNumbers : ℕ → ℕ → List ℤ → List ℤ → ℕ → ℕ → ℕ → ℕ → Job
+jobOfNumbers order divisor a b low high last w₀ = jobOf (lawOf order divisor a b) (startOf low high) last w₀
 
 -- what the reader tells; the weights are the first of the row
 abbrev pub tells : Answer → Job → ℕ → List ℕ → Told

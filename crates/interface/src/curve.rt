@@ -38,6 +38,7 @@ pub extern "C" fn claimtotals_curve(
     start_low: u64,
     start_high: u64,
     last: u64,
+    zero: u64,
     weights: &[u64],
     low: &mut [i64],
     high: &mut [i64],
@@ -46,10 +47,12 @@ pub extern "C" fn claimtotals_curve(
     place: &mut usize,
 ) -> u64
     ensures answer { λ r. ⌜ returned r (now (place .exit))
-        ≡ curveAnswer (jobOfNumbers order divisor (now (a .entry)) (now (b .entry)) «start_low» «start_high» last) (now (weights .entry))
+        ≡ curveAnswer (jobOfNumbers order divisor (now (a .entry)) (now (b .entry)) «start_low» «start_high» last zero)
+        (now (weights .entry))
         (lentRows (now (low .entry)) (now (high .entry)) (now (bound .entry)) (now (work .entry))) ⌝ }
     ensures rows { λ r. ⌜ lentRows (now (low .exit)) (now (high .exit)) (now (bound .exit)) (now (work .exit))
-        ≡ curveLent (jobOfNumbers order divisor (now (a .entry)) (now (b .entry)) «start_low» «start_high» last) (now (weights .entry))
+        ≡ curveLent (jobOfNumbers order divisor (now (a .entry)) (now (b .entry)) «start_low» «start_high» last zero)
+        (now (weights .entry))
         (lentRows (now (low .entry)) (now (high .entry)) (now (bound .entry)) (now (work .entry))) ⌝ }
 {
     let law = Law {
@@ -62,7 +65,12 @@ pub extern "C" fn claimtotals_curve(
         low: start_low,
         high: start_high,
     };
-    let job = Job { law, start, last };
+    let job = Job {
+        law,
+        start,
+        last,
+        zero,
+    };
     let answer = curve(job, weights, low, high, bound, work);
     *place = place_of(answer);
     number_of(answer)

@@ -41,11 +41,12 @@ pub extern "C" fn claimtotals_read_sheet(
     start_low: &mut u64,
     start_high: &mut u64,
     last: &mut u64,
+    zero: &mut u64,
     count: &mut usize,
 ) -> u64
     ensures answer { λ r. ⌜ tells (returned r (now (line .exit)))
         (jobOfNumbers (now (order .exit)) (now (divisor .exit)) (now (a .exit)) (now (b .exit))
-        (now («start_low» .exit)) (now («start_high» .exit)) (now (last .exit)))
+        (now («start_low» .exit)) (now («start_high» .exit)) (now (last .exit)) (now (zero .exit)))
         (now (count .exit)) (now (row .exit))
         ≡ told (reading (length (now (row .entry))) (now (sheet .entry))) ⌝ }
     ensures row { λ r. ⌜ now (row .exit) ≡ rowOnReturn (reading (length (now (row .entry))) (now (sheet .entry))) (now (row .entry)) ⌝ }
@@ -64,6 +65,7 @@ pub extern "C" fn claimtotals_read_sheet(
     *start_low = start.low;
     *start_high = start.high;
     *last = job.last;
+    *zero = job.zero;
     *count = read.count;
     let answer = read.answer;
     *line = line_of(answer);

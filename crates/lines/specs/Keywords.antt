@@ -1,4 +1,4 @@
--- The keywords of a sheet: "Lines in order: `LAW k D`; k lines `TERM A B`; `START s t`; `LAST X`; `SEVERITY m`; m lines `W w`."
+-- The keywords of a sheet: "Lines in order: `LAW k D`; k lines `TERM A B`; `START s t`; `LAST X`; `ZERO w`; `SEVERITY m`; m lines `W w`."
 use mathlib.Core.List.{List}
 use Prim.Native.Nat.{ℕ}
 use Rattle.text.specs.Bytes.{ascii}
@@ -14,6 +14,9 @@ START = ascii "START"
 
 abbrev pub LAST : List ℕ
 LAST = ascii "LAST"
+
+abbrev pub ZERO : List ℕ
+ZERO = ascii "ZERO"
 
 abbrev pub SEVERITY : List ℕ
 SEVERITY = ascii "SEVERITY"

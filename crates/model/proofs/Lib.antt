@@ -1,3 +1,4 @@
--- Laws of limits (`Tests`) and of answers, for the crates that have calls.
+-- Laws of limits (`Tests`), of divisors (`Weights`) and of answers, for the crates that have calls.
 pub mod Tests
+pub mod Weights
 pub mod Answer

@@ -49,4 +49,4 @@ module _ (job : Job) (weights : List ℕ) (limits : Limits job weights) where
 
   pub bound-nonneg : (x j : ℕ) → j < job .law .order → Nonneg (curveRows job weights j x)
   bound-nonneg = all-entries nonneg job weights
-      (divisors-pos (job .law) weights (limits .law .divisor-least) (limits .table .weights-least)) first-nonneg
+      (divisors-pos job weights (limits .thinned-least) (limits .table .weights-least)) first-nonneg

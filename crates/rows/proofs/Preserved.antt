@@ -11,8 +11,8 @@ use Rattle.algebra.specs.Sum.{accumulate}
 use Rattle.algebra.proofs.Induction.{strong}
 use Rattle.algebra.proofs.Sum.{sum-related}
 use Rattle.model.specs.Weights.{totalWeight, divisorZero}
-use Rattle.model.specs.declared.Law.{Law}
 use Rattle.model.specs.declared.Job.{Job}
+use Rattle.model.specs.Job.{jobDivisor}
 use Rattle.enclosure.specs.declared.Entry.{Entry}
 use Rattle.enclosure.specs.Entry.{none, plus, sumOf, scaled, rounded}
 use Rattle.rows.specs.Curve.{severities, factor, divisorAt, firstEntry, sumsZero, sumsNext, entryAt, curveRows}
@@ -31,17 +31,13 @@ pub record Preserved (B : Type 0) (Rel : Entry → B → Type 0) : Type 1 where
   pub by-rounded : (d : ℕ) (e : Entry) (b c : B) → 1 ≤ d → Rel e b → Divided d b c → Rel (rounded d e) c
 
 -- the divisor of each row at each total past 0 is at least 1
-abbrev pub Divisors : Law → List ℕ → Type 0
-Divisors law weights = (j x : ℕ) → j < law .order → 1 ≤ divisorAt law weights j (suc x)
+abbrev pub DivisorsPos : Job → List ℕ → Type 0
+DivisorsPos job weights = (j x : ℕ) → j < job .law .order → 1 ≤ divisorAt job weights j (suc x)
 
-module _ (law : Law) (weights : List ℕ) (divisor-pos : 1 ≤ law .divisor) (total-pos : 1 ≤ totalWeight weights) where
-  pub divisor-pos-zero : (x : ℕ) → 1 ≤ x → 1 ≤ divisorAt law weights 0 x
-  unfolding divisorZero
-  divisor-pos-zero x h = NL.mul-pos (NL.mul-pos divisor-pos h) total-pos
-
-  pub divisors-pos : Divisors law weights
-  divisors-pos zero x h = divisor-pos-zero (suc x) (NL.zero-lt-suc x)
-  divisors-pos (suc j) x h = total-pos
+pub divisors-pos : (job : Job) (weights : List ℕ) → 1 ≤ jobDivisor job weights → 1 ≤ totalWeight weights → DivisorsPos job weights
+unfolding divisorZero
+divisors-pos job weights thinned total zero x h = NL.mul-pos thinned (NL.zero-lt-suc x)
+divisors-pos job weights thinned total (suc j) x h = omega arith
 
 module _ {B : Type 0} {Rel : Entry → B → Type 0} (keeps : Preserved B Rel) where
   -- the other numbers, added up
@@ -55,15 +51,15 @@ module _ {B : Type 0} {Rel : Entry → B → Type 0} (keeps : Preserved B Rel) w
     -- rows of the other numbers follow the curve's rule
     pub record Follows (rows : ℕ → ℕ → B) : Type 0 where
       pub first : (j : ℕ) → j < job .law .order → Rel (firstEntry (job .start) j) (rows j 0)
-      pub row-zero : (x : ℕ) → 0 < job .law .order → keeps .Divided (divisorAt (job .law) weights 0 (suc x))
+      pub row-zero : (x : ℕ) → 0 < job .law .order → keeps .Divided (divisorAt job weights 0 (suc x))
           (together (job .law .order) (λ i. together (severities weights (suc x)) (λ y.
           keeps .times (factor (job .law) weights (suc x) i y) (rows i (suc x - suc y)))))
           (rows 0 (suc x))
-      pub row-next : (j x : ℕ) → suc j < job .law .order → keeps .Divided (divisorAt (job .law) weights (suc j) (suc x))
+      pub row-next : (j x : ℕ) → suc j < job .law .order → keeps .Divided (divisorAt job weights (suc j) (suc x))
           (together (severities weights (suc x)) (λ y. keeps .times (pos (getD weights y 0)) (rows j (suc x - suc y))))
           (rows (suc j) (suc x))
 
-    module _ (divisors : Divisors (job .law) weights) (rows : ℕ → ℕ → B) (rule : Follows rows) where
+    module _ (divisors : DivisorsPos job weights) (rows : ℕ → ℕ → B) (rule : Follows rows) where
       -- the claim at total x, for the rows 0 to k - 1
       abbrev At : ℕ → Type 0
       At x = (j : ℕ) → j < job .law .order → Rel (curveRows job weights j x) (rows j x)
@@ -105,7 +101,7 @@ module _ {P : Entry → Type 0} (keeps : PreservedAlone P) where
     by-rounded = λ d e _ _ l p _. keeps .by-rounded d e l p;
   }
 
-  pub all-entries : (job : Job) (weights : List ℕ) → Divisors (job .law) weights
+  pub all-entries : (job : Job) (weights : List ℕ) → DivisorsPos job weights
       → ((j : ℕ) → P (firstEntry (job .start) j)) → (x j : ℕ) → j < job .law .order → P (curveRows job weights j x)
   all-entries job weights divisors first = all-preserved beside-nothing job weights divisors (λ _ _. tt)
       (record { first = λ j _. first j; row-zero = λ _ _. tt; row-next = λ _ _ _. tt })

@@ -27,10 +27,10 @@ module _ (job : Job) (weights : List ℕ) where
     entry-first e = ap (entryAt job weights rows j) e
 
     pub entry-later : (x ≡ 0 → ⊥) → (k : ℕ) → j ≡ k
-        → entryAt job weights rows j x ≡ rounded (divisorAt (job .law) weights k x) (sumsAt (job .law) weights rows k x)
+        → entryAt job weights rows j x ≡ rounded (divisorAt job weights k x) (sumsAt (job .law) weights rows k x)
     unfolding entryAt
     entry-later later k e = ap₂ (entryAt job weights rows) e (suc-pred x later)
-        ∙ ap (λ (n : ℕ). rounded (divisorAt (job .law) weights k n) (sumsAt (job .law) weights rows k n)) (sym (suc-pred x later))
+        ∙ ap (λ (n : ℕ). rounded (divisorAt job weights k n) (sumsAt (job .law) weights rows k n)) (sym (suc-pred x later))
 
   -- two records that agree in the rows 0 to k - 1 at the totals below x
   abbrev pub Agree : Rows → Rows → ℕ → Type 0

@@ -5,7 +5,7 @@ use Prim.Native.Nat.{ℕ, zero, suc, _-_, _<_, min}
 use lib.IntN.{ℤ, pos, _+ℤ_, _-ℤ_, _*ℤ_}
 use lib.ListN.{length, getD}
 use Rattle.algebra.specs.Slice.{listed}
-use Rattle.model.specs.Weights.{totalWeight, divisorZero}
+use Rattle.model.specs.Weights.{allWeight, divisorZero}
 use Rattle.model.specs.declared.Law.{Law}
 use Rattle.model.specs.declared.Start.{Start}
 use Rattle.model.specs.declared.Job.{Job}
@@ -42,11 +42,6 @@ module _ (law : Law) (weights : List ℕ) where
   sumsAt rows zero x = sumsZero rows x
   sumsAt rows (suc j) x = sumsNext weights rows j x
 
-  -- the divisor of row j: that of row 0 is D x W; of the others "The divisor is W."
-  abbrev pub divisorAt : ℕ → ℕ → ℕ
-  divisorAt zero x = divisorZero (law .divisor) (totalWeight weights) x
-  divisorAt (suc j) x = totalWeight weights
-
 -- "At total 0: row 0 has low s, high t, bound t-s. Other rows have 0, 0, 0."
 abbrev pub firstEntry : Start → ℕ → Entry
 firstEntry start zero = record {
@@ -57,10 +52,16 @@ firstEntry start zero = record {
 firstEntry start (suc j) = none
 
 module _ (job : Job) (weights : List ℕ) where
+  -- the divisor of row j at total x: that of row 0 is "(D times W - A times w(0)) times x"; of the others "The divisor is W."
+  abbrev pub divisorAt : ℕ → ℕ → ℕ
+  divisorAt zero x =
+      divisorZero (job .law .divisor) (getD (job .law .a) 0 (pos 0)) (job .zero) (allWeight (job .zero) weights) x
+  divisorAt (suc j) x = allWeight (job .zero) weights
+
   -- the entry of row j at total x, from the entries at earlier totals
   unfoldable pub entryAt : Rows → ℕ → ℕ → Entry
   entryAt rows j zero = firstEntry (job .start) j
-  entryAt rows j (suc x) = rounded (divisorAt (job .law) weights j (suc x)) (sumsAt (job .law) weights rows j (suc x))
+  entryAt rows j (suc x) = rounded (divisorAt j (suc x)) (sumsAt (job .law) weights rows j (suc x))
 
   -- the entries of the rows 0 to k - 1 at the totals 0 to n, from those at the totals 0 to n - 1
   unfoldable pub withNext : List (List Entry) → ℕ → List (List Entry)

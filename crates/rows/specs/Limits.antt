@@ -6,7 +6,8 @@ use lib.ListN.{getD}
 use Rattle.model.specs.declared.Law.{Law}
 use Rattle.model.specs.declared.Job.{Job}
 use Rattle.model.specs.Limits.{unit, mostOrder, mostLast}
-use Rattle.model.specs.Weights.{totalWeight}
+use Rattle.model.specs.Weights.{totalWeight, allWeight}
+use Rattle.model.specs.Job.{jobDivisor}
 
 -- of its law, by checks 1 to 3
 pub record LawLimits (law : Law) : Type 0 where
@@ -17,15 +18,17 @@ pub record LawLimits (law : Law) : Type 0 where
   pub a-small : (i : ℕ) → i < mostOrder → natAbs (getD (law .a) i (pos 0)) ≤ 1000
   pub b-small : (i : ℕ) → i < mostOrder → natAbs (getD (law .b) i (pos 0)) ≤ 1000
 
--- of its table, by check 6
+-- of the row of its table, by checks 6 and 13
 pub record TableLimits (weights : List ℕ) : Type 0 where
   pub weights-least : 1 ≤ totalWeight weights
   pub weights-most : totalWeight weights ≤ 1000
 
--- of all of it, by checks 1 to 7
+-- of all of it, by checks 1 to 7, 12 and 13
 pub record Limits (job : Job) (weights : List ℕ) : Type 0 where
   pub law : LawLimits (job .law)
   pub table : TableLimits weights
+  pub total-most : allWeight (job .zero) weights ≤ 1000
+  pub thinned-least : 1 ≤ jobDivisor job weights
   pub start-order : job .start .low ≤ job .start .high
   pub start-most : job .start .high ≤ unit
   pub last-most : job .last ≤ mostLast

@@ -7,15 +7,22 @@ use lib.ListN.{length, getD, drop}
 use Rattle.model.specs.declared.Job.{Job}
 use Rattle.model.specs.declared.Law.{Law}
 use Rattle.model.specs.Limits.{mostLast, mostTotals}
+use Rattle.model.specs.Weights.{allWeight}
+use Rattle.model.specs.Job.{jobDivisor}
 use Rattle.enclosure.specs.declared.term.Factor.{Factor}
 use Rattle.enclosure.specs.Entry.{outOfRange, boundTooLarge}
 use Rattle.enclosure.specs.Term.{Small}
 use Rattle.rows.specs.declared.fill.Faults.{Faults}
 use Rattle.rows.specs.declared.fill.Stop.{Stop}
+use Rattle.rows.specs.declared.total.Divisors.{Divisors}
 use Rattle.rows.specs.Curve.{Rows, entryAt, curveRows}
 use Rattle.rows.specs.Faults.{anyRow, firstFault, rangeFault}
 use Rattle.rows.specs.Layout.{Lent, workPlaces, stored, LongEnough}
 use Rattle.rows.specs.Limits.{LawLimits, TableLimits}
+
+-- ---- the divisors
+abbrev pub divisorsOf : Job → List ℕ → Divisors
+divisorsOf job weights = record { first = jobDivisor job weights; further = allWeight (job .zero) weights }
 
 -- ---- the entries of one total
 -- A x + B y, of term i + 1

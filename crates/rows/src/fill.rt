@@ -1,6 +1,7 @@
 // The rows, filled total by total up to the first total that has a fault.
 
 use super::layout::put;
+use super::total::Divisors;
 use super::total::entry_at;
 use enclosure::Entry;
 use enclosure::rule::is_bound_too_large;
@@ -9,12 +10,11 @@ use model::Job;
 ghost use mathlib.Core.Path.{_≡_};
 ghost use mathlib.Core.Bool.{_||_};
 ghost use Prim.Native.Nat.{_+_};
-ghost use Rattle.model.specs.Weights.{totalWeight};
 ghost use Rattle.enclosure.specs.Entry.{outOfRange, boundTooLarge};
 ghost use Rattle.rows.specs.Curve.{entryAt};
 ghost use Rattle.rows.specs.Layout.{lentRows, LongEnough, stored};
 ghost use Rattle.rows.specs.Limits.{Limits};
-ghost use Rattle.rows.specs.Progress.{Ready, faultsBelow, Advanced, Filled, stopOf};
+ghost use Rattle.rows.specs.Progress.{divisorsOf, Ready, faultsBelow, Advanced, Filled, stopOf};
 
 // What the rows of one total show: a low or high out of range, a bound too large.
 pub struct Faults {
@@ -43,12 +43,12 @@ fn with_entry(faults: Faults, entry: Entry) -> Faults
     Faults { range, bound }
 }
 
-// The entries of total `x`, put into the rows; `a` and `b` are A_1..A_4 and B_1..B_4, `total` is the sum of the weights.
+// The entries of total `x`, put into the rows; `a` and `b` are A_1..A_4 and B_1..B_4.
 fn fill_total(
     job: Job,
     a: &[i64; 4],
     b: &[i64; 4],
-    total: u64,
+    divisors: Divisors,
     x: usize,
     weights: &[u64],
     low: &mut [i64],
@@ -57,7 +57,7 @@ fn fill_total(
     work: &mut [i64],
     places: usize,
 ) -> Faults
-    requires { ⌜ (total ≡ totalWeight (now weights)) × Limits job (now weights) ⌝ }
+    requires { ⌜ (divisors ≡ divisorsOf job (now weights)) × Limits job (now weights) ⌝ }
     requires { ⌜ Ready (job .law) (now weights) places x (lentRows (now low) (now high) (now bound) (now work)) ⌝ }
     requires { ⌜ (now a ≡ job .law .a) × (now b ≡ job .law .b) ⌝ }
     ensures faults { λ r. ⌜ r ≡ faultsBelow (job .law .order) (entryAt job (now (weights .entry)) (stored places
@@ -76,7 +76,7 @@ fn fill_total(
             job,
             a,
             b,
-            total,
+            divisors,
             x,
             weights,
             low,
@@ -92,17 +92,17 @@ fn fill_total(
     faults
 }
 
-// The rows, filled from total 0 on, up to the last total or the first that has a fault; `total` is the sum of the weights.
+// The rows, filled from total 0 on, up to the last total or the first that has a fault.
 pub fn fill(
     job: Job,
-    total: u64,
+    divisors: Divisors,
     weights: &[u64],
     low: &mut [i64],
     high: &mut [i64],
     bound: &mut [i64],
     work: &mut [i64],
 ) -> Stop
-    requires { ⌜ (total ≡ totalWeight (now weights)) × Limits job (now weights) ⌝ }
+    requires { ⌜ (divisors ≡ divisorsOf job (now weights)) × Limits job (now weights) ⌝ }
     requires { ⌜ LongEnough (job .last + 1) (lentRows (now low) (now high) (now bound) (now work)) ⌝ }
     ensures stop { λ r. ⌜ r ≡ stopOf job (now (weights .entry)) ⌝ }
     ensures rows { λ r. ⌜ Filled job (now (weights .entry))
@@ -118,7 +118,7 @@ pub fn fill(
             job,
             &a,
             &b,
-            total,
+            divisors,
             x,
             weights,
             low,

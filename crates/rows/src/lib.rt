@@ -3,4 +3,4 @@
 
 pub mod fill; // fill.rt: the rows, total by total
 pub mod layout; // layout.rt: where the rows lie
-mod total; // total.rt: the entries of one total
+pub mod total; // total.rt: the entries of one total

@@ -9,15 +9,20 @@ use model::Job;
 use model::Law;
 use model::Start;
 ghost use mathlib.Core.Path.{_≡_};
-ghost use Prim.Native.Nat.{_≤_, _<_, _^_};
+ghost use Prim.Native.Nat.{_*_, _≤_, _<_, _^_};
 ghost use lib.IntN.{pos, natAbs};
 ghost use lib.ListN.{getD};
-ghost use Rattle.model.specs.Weights.{totalWeight, divisorZero};
 ghost use Rattle.model.specs.Limits.{unit, mostOrder, mostLast};
 ghost use Rattle.rows.specs.Curve.{firstEntry, sumsZero, entryAt};
 ghost use Rattle.rows.specs.Layout.{lentRows, stored};
 ghost use Rattle.rows.specs.Limits.{Limits};
-ghost use Rattle.rows.specs.Progress.{Ready, termFactor};
+ghost use Rattle.rows.specs.Progress.{divisorsOf, termFactor, Ready};
+
+// The divisors of a job: that of row 0 at total 1, D W - A w(0), and that of the further rows, W.
+pub struct Divisors {
+    pub first: u64,
+    pub further: u64,
+}
 
 // The factor of term `i` + 1: A x + B y, times w(y).
 fn term_factor(a: &[i64; 4], b: &[i64; 4], x: usize, i: usize) -> Factor
@@ -57,13 +62,13 @@ fn sums_zero<'rows>(
     sums
 }
 
-// The divisor of row 0, from D and the sum of the weights.
-fn divisor_zero(divisor: u64, total: u64, x: usize) -> u64
-    requires { ⌜ (divisor ≤ 1000) × (total ≤ 1000) × (x ≤ mostLast) ⌝ }
-    ensures divisor { λ r. ⌜ r ≡ divisorZero divisor total x ⌝ }
+// The divisor of row 0 at total `x`, from that at total 1.
+fn divisor_zero(first: u64, x: usize) -> u64
+    requires { ⌜ (first ≤ 2000000) × (x ≤ mostLast) ⌝ }
+    ensures divisor { λ r. ⌜ r ≡ first * x ⌝ }
     ensures fits { λ r. ⌜ r < 2 ^ 63 ⌝ }
 {
-    divisor * x as u64 * total
+    first * x as u64
 }
 
 // The entry of row `row` at total 0.
@@ -83,12 +88,12 @@ fn first_entry(start: Start, row: usize) -> Entry
     none()
 }
 
-// The entry of row `row` at total `x`; `total` is the sum of the weights.
+// The entry of row `row` at total `x`.
 pub fn entry_at<'rows>(
     job: Job,
     a: &[i64; 4],
     b: &[i64; 4],
-    total: u64,
+    divisors: Divisors,
     x: usize,
     weights: &[u64],
     low: &'rows [i64],
@@ -98,7 +103,7 @@ pub fn entry_at<'rows>(
     places: usize,
     row: usize,
 ) -> Entry
-    requires { ⌜ (row < job .law .order) × (total ≡ totalWeight (now weights)) × Limits job (now weights) ⌝ }
+    requires { ⌜ (row < job .law .order) × (divisors ≡ divisorsOf job (now weights)) × Limits job (now weights) ⌝ }
     requires { ⌜ Ready (job .law) (now weights) places x (lentRows (now low) (now high) (now bound) (now work)) ⌝ }
     requires { ⌜ (now a ≡ job .law .a) × (now b ≡ job .law .b) ⌝ }
     ensures { λ r. ⌜ r ≡ entryAt job (now (weights .entry)) (stored places
@@ -109,7 +114,7 @@ pub fn entry_at<'rows>(
     }
     if row == 0 {
         let sums = sums_zero(job.law, a, b, x, weights, low, high, bound, work, places);
-        return divide_sums(sums, divisor_zero(job.law.divisor, total, x));
+        return divide_sums(sums, divisor_zero(divisors.first, x));
     }
     let weight = Factor {
         constant: 1,
@@ -127,5 +132,5 @@ pub fn entry_at<'rows>(
         places,
         row - 1,
     );
-    divide_sums(sums, total)
+    divide_sums(sums, divisors.further)
 }

@@ -11,6 +11,7 @@ use lines::keywords::LAW;
 use lines::keywords::SEVERITY;
 use lines::keywords::START;
 use lines::keywords::TERM;
+use lines::keywords::ZERO;
 use lines::line::OneRead;
 use lines::line::TwoRead;
 use lines::line::natural;
@@ -29,7 +30,8 @@ ghost use Prim.Native.Nat.{ℕ, _+_, _≤_};
 ghost use lib.ListN.{length};
 ghost use Rattle.model.specs.Limits.{mostOrder, mostSeverities};
 ghost use Rattle.lines.specs.Reason.{numberOf};
-ghost use Rattle.grammar.specs.Reading.{refuses, noTerms, weightLines, severityLine, lastLine, startLine, termLines, lawLine, reading};
+ghost use Rattle.grammar.specs.Reading.{refuses, noTerms, reading};
+ghost use Rattle.grammar.specs.Reading.{weightLines, severityLine, zeroLine, lastLine, startLine, termLines, lawLine};
 ghost use Rattle.sheet.specs.Call.{paper, told};
 
 // A refusal: its other numbers are 0.
@@ -58,7 +60,7 @@ fn refused(reason: Reason, line: usize) -> SheetRead
 
 // The `count` lines `W w`, the first of them line `line`, with nothing after them.
 fn read_weights(rest: &[u8], count: usize, line: usize, job: Job, weights: &mut [u64]) -> SheetRead
-    requires { ⌜ (count ≤ length (now weights)) × (count ≤ mostSeverities) × (line ≤ mostOrder + 5) ⌝ }
+    requires { ⌜ (count ≤ length (now weights)) × (count ≤ mostSeverities) × (line ≤ mostOrder + 6) ⌝ }
     ensures { λ r. ⌜ paper r (now (weights .exit)) ≡ told (weightLines job [] count line (now (rest .entry))) ⌝ }
 {
     let mut left = rest;
@@ -88,7 +90,7 @@ fn read_severity(
     job: Job,
     weights: &mut [u64],
 ) -> SheetRead
-    requires { ⌜ (mostSeverities ≤ length (now weights)) × (line ≤ mostOrder + 4) ⌝ }
+    requires { ⌜ (mostSeverities ≤ length (now weights)) × (line ≤ mostOrder + 5) ⌝ }
     ensures { λ r. ⌜ paper r (now (weights .exit)) ≡ told (severityLine places job line (now (rest .entry))) ⌝ }
 {
     match read_one(rest, &SEVERITY) {
@@ -101,6 +103,32 @@ fn read_severity(
                 return refused(Reason::Places, line);
             }
             read_weights(&rest[next..], count as usize, line + 1, job, weights)
+        }
+    }
+}
+
+fn read_zero(
+    rest: &[u8],
+    places: usize,
+    line: usize,
+    law: Law,
+    start: Start,
+    last: u64,
+    weights: &mut [u64],
+) -> SheetRead
+    requires { ⌜ (mostSeverities ≤ length (now weights)) × (line ≤ mostOrder + 4) ⌝ }
+    ensures { λ r. ⌜ paper r (now (weights .exit)) ≡ told (zeroLine places law start last line (now (rest .entry))) ⌝ }
+{
+    match read_one(rest, &ZERO) {
+        OneRead::Refused(reason) => refused(reason, line),
+        OneRead::Number(zero, next) => {
+            let job = Job {
+                law,
+                start,
+                last,
+                zero,
+            };
+            read_severity(&rest[next..], places, line + 1, job, weights)
         }
     }
 }
@@ -119,8 +147,7 @@ fn read_last(
     match read_one(rest, &LAST) {
         OneRead::Refused(reason) => refused(reason, line),
         OneRead::Number(last, next) => {
-            let job = Job { law, start, last, zero: 0 };
-            read_severity(&rest[next..], places, line + 1, job, weights)
+            read_zero(&rest[next..], places, line + 1, law, start, last, weights)
         }
     }
 }

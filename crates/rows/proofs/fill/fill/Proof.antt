@@ -19,11 +19,11 @@ use Rattle.rows.proofs.fill.fill.Statement.{statement}
 use Rattle.rows.proofs.fill.fill.Tie as tie
 
 abbrev Inv-loop : tie.InvT-loop
-Inv-loop job total weights low₀ high₀ bound₀ work₀ places a b x₀ low high bound work x = (x ≤ job .last + 1)
+Inv-loop job divisors weights low₀ high₀ bound₀ work₀ places a b x₀ low high bound work x = (x ≤ job .last + 1)
     × Reached job weights (lentRows low₀ high₀ bound₀ work₀) x (lentRows low high bound work)
 
 abbrev μ-loop : tie.MeasureT-loop
-μ-loop job total weights low₀ high₀ bound₀ work₀ places a b x₀ low high bound work x = job .last + 1 - x
+μ-loop job divisors weights low₀ high₀ bound₀ work₀ places a b x₀ low high bound work x = job .last + 1 - x
 
 limits : (c : tie.Start Inv-loop μ-loop) → Limits (c .args .job) (c .args .weights .now)
 limits c = c .pre .0 .1

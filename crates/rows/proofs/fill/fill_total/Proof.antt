@@ -12,12 +12,12 @@ use Rattle.rows.proofs.fill.fill_total.Statement.{statement}
 use Rattle.rows.proofs.fill.fill_total.Tie as tie
 
 abbrev Inv-loop : tie.InvT-loop
-Inv-loop job a b total x weights low₀ high₀ bound₀ work₀ places order faults₀ row₀ low high bound work faults row = (row ≤ order)
+Inv-loop job a b divisors x weights low₀ high₀ bound₀ work₀ places order faults₀ row₀ low high bound work faults row = (row ≤ order)
     × (faults ≡ faultsBelow row (entryAt job weights (stored places (lentRows low₀ high₀ bound₀ work₀))) x)
     × Advanced job weights places x row (lentRows low₀ high₀ bound₀ work₀) (lentRows low high bound work)
 
 abbrev μ-loop : tie.MeasureT-loop
-μ-loop job a b total x weights low₀ high₀ bound₀ work₀ places order faults₀ row₀ low high bound work faults row = order - row
+μ-loop job a b divisors x weights low₀ high₀ bound₀ work₀ places order faults₀ row₀ low high bound work faults row = order - row
 
 -- the rows at the start, and what the rule makes of them
 module _ (c : tie.Start Inv-loop μ-loop) where

@@ -2,13 +2,22 @@
 -- is the weight, divided.
 use borrow.Author.Needs.{needs}
 use mathlib.Core.Path.{_≡_, sym, _∙_, ap, ap₂}
-use Prim.Native.Nat.{ℕ, suc, _-_, _<_}
+use mathlib.Core.List.{List}
+use Prim.Native.Nat.{ℕ, suc, _-_, _*_, _≤_, _<_}
+use native.Mathlib.Nat as NL
 use native.Mathlib.Omega.{arith}
-use Rattle.model.specs.Weights.{divisorZero}
+use lib.Dec.{lit<}
+use lib.IntN.{pos}
+use lib.ListN.{getD}
+use Rattle.model.specs.Weights.{allWeight, divisorZero}
+use Rattle.model.specs.Job.{jobDivisor}
+use Rattle.model.specs.declared.Job.{Job}
+use Rattle.model.proofs.Weights.{thinned-most}
 use Rattle.enclosure.specs.Entry.{rounded}
+use Rattle.rows.specs.declared.total.Divisors.{Divisors}
 use Rattle.rows.specs.Curve.{sumsNext}
 use Rattle.rows.specs.Layout.{lentRows, stored}
-use Rattle.rows.proofs.Preserved.{divisor-pos-zero}
+use Rattle.rows.specs.Limits.{Limits}
 use Rattle.rows.proofs.Recursion.{suc-pred, entry-first, entry-later}
 use Rattle.rows.proofs.Sums.{next-is, reachable, next-room, bound-fits}
 use Rattle.rows.proofs.total.entry_at.Statement.{statement}
@@ -22,11 +31,17 @@ returns c =
     c .first-entry .ensures ∙ sym (entry-first (a .job) (a .weights .now) _ (a .row) (a .x) (t .if1 .taken))
 
 -- row 0
+first-most : (job : Job) (weights : List ℕ) → Limits job weights → jobDivisor job weights ≤ 2000000
+first-most job weights limits = thinned-most (job .law .divisor) (getD (job .law .a) 0 (pos 0)) (job .zero) (allWeight (job .zero) weights)
+    (limits .law .divisor-most) (limits .law .a-small 0 (lit< tt)) (omega (arith, limits .total-most)) (limits .total-most)
+
 divisor-zero-requires : tie.Need-divisor-zero-requires
 divisor-zero-requires c κs =
     let s = c .before .before .before .before in
-    let basis = s .pre .1 .0 .basis in
-    (basis .law-limits .divisor-most, omega (arith, s .pre .0 .1, basis .table-limits .weights-most), basis .total-most)
+    let a = s .args in (
+      rw (s .pre .0 .1) (first-most (a .job) (a .weights .now) (s .pre .0 .2)),
+      s .pre .1 .0 .basis .total-most,
+    )
 
 divide-sums-requires : tie.Need-divide-sums-requires
 divide-sums-requires c κs =
@@ -35,21 +50,21 @@ divide-sums-requires c κs =
     let s = t .before .before .before in
     let a = s .args in
     let basis = s .pre .1 .0 .basis in
-    let least = divisor-pos-zero (a .job .law) (a .weights .now) (basis .law-limits .divisor-least) (basis .table-limits .weights-least)
-    (a .x) (omega (arith, t .before .if1 .left)) in (
-      rw (c .divisor-zero .ensures .0, s .pre .0 .1) least,
+    let later : 1 ≤ a .x = omega (arith, t .before .if1 .left) in (
+      rw (c .divisor-zero .ensures .0, s .pre .0 .1) (NL.mul-pos (s .pre .0 .2 .thinned-least) later),
       c .divisor-zero .ensures .1,
       rw (e .sums-zero .ensures) (bound-fits (a .job .law) (a .weights .now) (a .x) _ basis 0 _ (basis .law-limits .order-least)),
     )
 
 returns-2 : tie.Need-returns-2
+unfolding divisorZero
 returns-2 c =
     let d = c .before in
     let t = d .before .before in
     let s = t .before .before .before in
     let a = s .args in
     c .divide-sums .ensures
-    ∙ ap₂ rounded (d .divisor-zero .ensures .0 ∙ ap (λ (w : ℕ). divisorZero (a .job .law .divisor) w (a .x)) (s .pre .0 .1))
+    ∙ ap₂ rounded (d .divisor-zero .ensures .0 ∙ ap (λ (r : Divisors). r .first * a .x) (s .pre .0 .1))
     (d .before .sums-zero .ensures)
     ∙ sym (entry-later (a .job) (a .weights .now) _ (a .row) (a .x) (t .before .if1 .left) 0 (t .if2 .taken))
 
@@ -78,8 +93,8 @@ divide-sums-requires-2 c κs =
     let basis = s .pre .1 .0 .basis in
     let table = basis .table-limits in
     let below : suc (a .row - 1) < a .job .law .order = omega (arith, s .pre .0 .0, c .before .before .if2 .left) in (
-      omega (arith, s .pre .0 .1, table .weights-least),
-      omega (arith, s .pre .0 .1, table .weights-most),
+      rw (s .pre .0 .1) (omega (arith, table .weights-least)),
+      rw (s .pre .0 .1) (omega (arith, s .pre .0 .2 .total-most)),
       rw (sums-are c) (bound-fits (a .job .law) (a .weights .now) (a .x) _ basis (suc (a .row - 1)) _ below),
     )
 
@@ -90,7 +105,7 @@ returns-3 c =
     let s = t .before .before .before in
     let a = s .args in
     c .divide-sums2 .ensures
-    ∙ ap₂ rounded (s .pre .0 .1) (sums-are d)
+    ∙ ap₂ rounded (ap (λ (r : Divisors). r .further) (s .pre .0 .1)) (sums-are d)
     ∙ sym (entry-later (a .job) (a .weights .now) _ (a .row) (a .x) (t .before .if1 .left) (suc (a .row - 1))
     (suc-pred (a .row) (t .if2 .left)))
 

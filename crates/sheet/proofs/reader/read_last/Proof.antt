@@ -1,4 +1,4 @@
--- The line is good or faulty as `read_one` says; what follows a good one is what `read_severity` gives.
+-- The line is good or faulty as `read_one` says; what follows a good one is what `read_zero` gives.
 use borrow.Author.Needs.{needs}
 use mathlib.Core.Bool.{false}
 use mathlib.Core.List.{List, [], _∷_}
@@ -26,7 +26,7 @@ returns-2 : tie.Need-returns-2
 unfolding lastLine
 returns-2 c =
     let next = c .before .before in
-    rw (good (next .before .before .before .before) .gives) (next .read-severity .ensures)
+    rw (good (next .before .before .before .before) .gives) (next .read-zero .ensures)
 
 pub read-last-spec : {M : Type 1} → statement M
 read-last-spec =
