@@ -12,14 +12,21 @@ def with_line(number, line):
     return text(*SMALL[:number - 1], line, *SMALL[number:])
 
 
-def weights(*numbers, zero=0):
-    """The small sheet with these weights, and with that of size 0."""
-    return text(*SMALL[:4], f"ZERO {zero}", f"SEVERITY {len(numbers)}", *(f"W {number}" for number in numbers))
+def weights(*numbers):
+    """The small sheet with these."""
+    return text(*SMALL[:5], f"SEVERITY {len(numbers)}", *(f"W {number}" for number in numbers))
 
 
-def one_size(term, start, last):
-    """Every claim costs 1."""
-    return text("LAW 1 1", f"TERM {term}", f"START {start}", f"LAST {last}", "ZERO 0", "SEVERITY 1", "W 1")
+def one_size(*lines):
+    """With these, and claims of size 1 alone."""
+    return text("LAW 1 1", *lines, "ZERO 0", "SEVERITY 1", "W 1")
+
+
+def closed(zero, *numbers, order=1, divisor=1, a=0, last=3):
+    """A sheet with this weight of size 0, and with these from size 1 on."""
+    terms = [f"TERM {a} 1", *["TERM 0 0"] * (order - 1)]
+    return text(f"LAW {order} {divisor}", *terms, SMALL[2], f"LAST {last}", f"ZERO {zero}", f"SEVERITY {len(numbers)}",
+                *(f"W {number}" for number in numbers))
 
 
 # Where no remedy but the general one fits: the number, and the sheet.
@@ -33,17 +40,22 @@ PLAIN = {
     "a start of 0": (4, with_line(3, "START 0 0")),
     "weights above their sum": (6, weights(MOST_SUM, 1)),
     "weights far above it": (6, weights(*[9_999_999_999] * MOST_WEIGHTS)),
-    "weights above it with that of size 0": (6, weights(1, 1, zero=MOST_SUM - 1)),
     "no weight above 0": (6, weights(0, 0, 0)),
+    "claims of size 0 above the sum": (6, closed(MOST_SUM, 1)),
+    "claims of size 0 far above it, and a law of order 2": (6, closed(9_999_999_999, 1, order=2)),
+    "claims of size 0 with a law of order 2": (11, closed(1, 1, order=2)),
+    "claims of size 0 with a law of order 4": (11, closed(1, 0, order=4, a=2)),
+    "a divisor of zero without claims of size 0": (12, closed(1, 1, a=2)),
+    "a divisor of zero, with large numbers": (12, closed(999, 1, divisor=999, a=1000)),
+    "a divisor below zero": (12, closed(1, 1, a=3)),
+    "a divisor below zero, and claims of size 0 alone": (12, closed(1, 0, a=2)),
+    "claims of size 0 alone": (13, closed(1, 0)),
+    "claims of size 0 alone, and too many totals": (13, closed(MOST_SUM, 0, 0, last=501)),
     "too many totals": (7, with_line(4, "LAST 501")),
-    "an amount too large": (9, one_size("3 0", f"{UNIT} {UNIT}", 3)),
-    "an amount too large, later": (9, one_size("2 0", f"{UNIT // 4} {UNIT // 4}", 9)),
-    "a bound too large": (10, one_size("-1 0", f"0 {UNIT}", 9)),
-    "a start below a unit": (10, one_size("0 30", "0 1", 100)),
-    "claims of size 0 and a law of order 2": (11, text("LAW 2 1", "TERM 0 1", *SMALL[1:4], "ZERO 1", *SMALL[5:])),
-    "claims of size 0 that take all from the divisor": (12, with_line(2, "TERM 2 0").replace(b"ZERO 0", b"ZERO 2")),
-    "claims of size 0 that take more": (12, with_line(2, "TERM 3 0").replace(b"ZERO 0", b"ZERO 2")),
-    "no claim that costs anything": (13, weights(0, 0, zero=5)),
+    "an amount too large": (9, one_size("TERM 3 0", f"START {UNIT} {UNIT}", "LAST 3")),
+    "an amount too large, later": (9, one_size("TERM 2 0", f"START {UNIT // 4} {UNIT // 4}", "LAST 9")),
+    "a bound too large": (10, one_size("TERM -1 0", f"START 0 {UNIT}", "LAST 9")),
+    "a start below a unit": (10, one_size("TERM 0 30", "START 0 1", "LAST 100")),
     "an empty sheet": (21, b""),
     "a sheet too long": (21, LONG + b"1" * (MOST_BYTES + 1 - len(LONG))),
     "a sheet far too long": (21, LONG + b"1" * 100_000),
@@ -53,8 +65,15 @@ PLAIN = {
     "k larger than the terms": (23, with_line(1, "LAW 2 1")),
     "k smaller than the terms": (23, text("LAW 1 1", "TERM 0 1", *SMALL[1:])),
     "another keyword": (23, with_line(4, "LIMIT 3")),
-    "a weight of size 0 for each size": (23, with_line(5, "ZERO 0 0")),
     "a number missing": (23, with_line(3, "START 367879441")),
+    "SEVERITY in the place of LAST": (23, text(*SMALL[:3], *SMALL[5:])),
+    "SEVERITY twice": (23, text(*SMALL[:6], *SMALL[5:])),
+    "SEVERITY with two numbers": (23, with_line(6, "SEVERITY 2 2")),
+    "ZERO in the place of LAST": (23, text(*SMALL[:3], *SMALL[4:])),
+    "ZERO without its number": (23, with_line(5, "ZERO")),
+    "ZERO with two numbers": (23, with_line(5, "ZERO 0 0")),
+    "ZERO twice": (23, text(*SMALL[:5], *SMALL[4:])),
+    "ZERO in words": (24, with_line(5, "ZERO none")),
     "only the keyword of the last line": (23, with_line(8, "W")),
     "a space for the thousands": (23, with_line(7, "W 1 000")),
     "points for the thousands": (24, with_line(7, "W 1.000.000")),
@@ -75,9 +94,11 @@ PLAIN = {
 
 # What beginners write: the number, the remedy that fits, by its name in refusals.ini, and the sheet.
 SEEN = {
+    "an older sheet": (23, "older sheet", text(*SMALL[:4], *SMALL[5:])),
+    "an older sheet of order 3": (23, "older sheet", text("LAW 3 1", *["TERM 0 1"] * 3, *SMALL[2:4], *SMALL[5:])),
+    "ZERO behind SEVERITY": (23, "older sheet", text(*SMALL[:4], SMALL[5], SMALL[4], *SMALL[6:])),
+    "an older sheet with a comment": (23, "older sheet", text(*SMALL[:4], "SEVERITY 2 # sizes", *SMALL[6:])),
     "line ends of an old Mac": (22, "line ends of old Macs", text(*SMALL).replace(b"\n", b"\r")),
-    "no ZERO line": (23, "older sheet", text(*SMALL[:4], *SMALL[5:])),
-    "the ZERO line behind the weights": (23, "older sheet", text(*SMALL[:4], *SMALL[5:], SMALL[4])),
     "a comma between numbers": (23, "other separators", with_line(2, "TERM 0,1")),
     "a semicolon between numbers": (23, "other separators", with_line(2, "TERM 0;1")),
     "a space that does not break": (23, "other separators", with_line(2, "TERM 0\u00a01")),
@@ -105,7 +126,7 @@ SEEN = {
     "a line of spaces": (23, "empty", text(*SMALL[:6], "  ", *SMALL[6:])),
     "a line of tabs": (23, "empty", text(*SMALL[:6], "\t\t", *SMALL[6:])),
     "lower case": (23, "lower case", text(*SMALL).lower()),
-    "ZERO in lower case": (23, "lower case", with_line(5, "zero 0")),
+    "ZERO in small letters": (23, "lower case", with_line(5, "zero 0")),
     "one capital alone": (23, "lower case", with_line(6, "Severity 2")),
     "lower case on the last line": (23, "lower case", with_line(LAST, "w 1")),
     "two spaces on the first line": (23, "spaces", with_line(FIRST, "LAW 1  1")),
