@@ -497,7 +497,7 @@ ZERO_ROWS = [
          Rows([UNIT, *[0] * 500], [UNIT, *[0] * 500], [0, 1, *[2] * 499])),
 
     # Wish 4's one, by this divisor
-    Case("a divisor of 1 at total 1; with the one, bounds at 1, 2 and 3 would be 5, 9 and 13", 0, 0, one(1, 1, 1, 7, 9, 3, [1], 9),
+    Case("a divisor of 1 at total 1; with the one, bounds at 1, 2 and 3 would be 5, 9 and 13", 0, 0, one(1, 1, 1, 7, 9, 3, [1], 2),
          exact.negative_binomial(2, 1), Rows([7, 14, 21, 28], [9, 18, 27, 36], [2, 4, 7, 11])),
     Case("a bound of U, divisor 1; by D W, it would be less, and with the one 10 at 1", 0, 0, one(1, 1, 0, 0, UNIT, 1, [1], 1),
          exact.geometric(1), Rows([0, 0], [UNIT, UNIT], [UNIT, UNIT])),

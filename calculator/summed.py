@@ -51,14 +51,23 @@ def sums(law, a, b, table, last):
     raise ArithmeticError(f"{MOST_MEMBERS} members do not do for the sums of a law with a = {a} on a table with q = {q}")
 
 
-def off_sums(job, law, amounts):
-    """What is wrong with the clerk's amounts per unit of the start, which is g(0); `law` has the count coefficients of all claims. Where an
-    amount is g(x)/g(0), the amount times what was found of g(0) and what was found of g(x) differ by what is left of both."""
+def sums_of_job(job, law, last):
+    """The law's count coefficients are those of all claims."""
     a, b = Fraction(job.a[0], job.divisor), Fraction(job.b[0], job.divisor)
-    found, left = sums(law, a, b, [job.zero, *job.weights], len(amounts) - 1)
+    return sums(law, a, b, [job.zero, *job.weights], last)
+
+
+def off_sums(found, left, amounts):
+    """Where an amount is g(x)/g(0), it is, times what was found of g(0), what was found of g(x), but for what is left of both."""
     for x, amount in enumerate(amounts):
         if abs(amount * found[0] - found[x]) > (1 + abs(amount)) * left:
             yield f"at {x}: the clerk's amount {amount} per unit is not that of Theorem 9, about {float(found[x] / found[0])}"
+
+
+def beside_sums(job, law, amounts):
+    """How the sums were found, and what is wrong with the clerk's amounts per unit of the start, which is g(0)."""
+    found, left = sums_of_job(job, law, len(amounts) - 1)
+    return "but for a rest" if left else "whole", list(off_sums(found, left, amounts))
 
 
 def off_zero_total(known, q, none, zero):

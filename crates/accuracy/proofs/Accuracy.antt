@@ -4,7 +4,7 @@ use native.Mathlib.Omega.{arith}
 use Rattle.algebra.specs.Fraction.{Between}
 use Rattle.exact.specs.JobAmount.{amount}
 use Rattle.rows.proofs.Filled.{sums-fit}
-use Rattle.compound.proofs.Accepted.{limits, no-fault, shows}
+use Rattle.compound.proofs.Accepted.{limits, no-zeros, no-fault, shows}
 use Rattle.accuracy.specs.Accuracy.{AcceptedDivisible, ShowsCurve, AcceptedSumsFit, Encloses, GapWithinBound, SameBounds}
 use Rattle.accuracy.proofs.Enclosure.{amount-enclosed}
 use Rattle.accuracy.proofs.Gap.{Narrow, narrow}
@@ -13,7 +13,11 @@ use Rattle.accuracy.proofs.Bounds.{SameBound, bounds}
 pub accepted-divisible : AcceptedDivisible
 accepted-divisible job weights lent ok =
     let within = limits job weights lent ok in
-    record { divisor-pos = within .law .divisor-least; total-pos = within .table .weights-least }
+    record {
+      divisor-pos = within .law .divisor-least;
+      thinned-pos = within .thinned-least;
+      total-pos = within .table .weights-least;
+    }
 
 pub shows-curve : ShowsCurve
 shows-curve = shows
@@ -25,13 +29,14 @@ accepted-sums-fit job weights lent ok x h = sums-fit job weights (limits job wei
 pub encloses : Encloses
 encloses job weights lent ok h x l p s t = subst (λ e. Between (e .low) (e .high) (amount job weights h p x))
     (sym (shows job weights lent ok x l))
-    (amount-enclosed job weights h p (s, t) (limits job weights lent ok .law .order-least) x)
+    (amount-enclosed job weights h (no-zeros job weights lent ok) p (s, t) (limits job weights lent ok .law .order-least) x)
 
 pub gap-within-bound : GapWithinBound
 gap-within-bound job weights lent ok x l = subst Narrow (sym (shows job weights lent ok x l))
     (narrow job weights (accepted-divisible job weights lent ok) x 0 (limits job weights lent ok .law .order-least))
 
 pub same-bounds : SameBounds
-same-bounds job job′ weights lent lent′ ok ok′ same-law same-gap x l l′ =
+same-bounds job job′ weights lent lent′ ok ok′ same-law same-zero same-gap x l l′ =
     subst₂ SameBound (sym (shows job weights lent ok x l)) (sym (shows job′ weights lent′ ok′ x l′))
-    (bounds job job′ weights same-gap (accepted-divisible job weights lent ok) same-law x 0 (limits job weights lent ok .law .order-least))
+    (bounds job job′ weights same-gap (accepted-divisible job weights lent ok) same-law same-zero x 0
+    (limits job weights lent ok .law .order-least))

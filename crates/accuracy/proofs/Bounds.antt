@@ -1,6 +1,6 @@
 -- Two jobs alike in law, table and gap have the same bounds: the rule for a bound names no low and no high, so the entries of the one job
 -- stand beside those of the other with equal bounds.
-use mathlib.Core.Path.{_≡_, refl, sym, ap, ap₂, subst}
+use mathlib.Core.Path.{_≡_, refl, sym, ap, ap₂, subst, subst₂}
 use mathlib.Core.List.{List}
 use Prim.Native.Nat.{ℕ, zero, suc, _<_}
 use lib.IntN.{ℤ, pos, natAbs, _+ℤ_, _*ℤ_}
@@ -36,24 +36,29 @@ same-bound = record {
 }
 
 module _ (job job′ : Job) (weights : List ℕ) (same-gap : gap (job .start) ≡ gap (job′ .start)) where
-  -- the second job under any law: first under that of the first job, which is then exchanged for its own
-  abbrev second : Law → Job
-  second law = jobOf law (job′ .start) (job′ .last)
+  -- the second job under any law and weight of severity 0: first under those of the first job, which are then exchanged for its own
+  abbrev second : Law → ℕ → Job
+  second law w₀ = jobOf law (job′ .start) (job′ .last) w₀
+
+  -- under those of the first job
+  abbrev alike : Job
+  alike = second (job .law) (job .zero)
 
   same-first : (j : ℕ) → SameBound (firstEntry (job .start) j) (firstEntry (job′ .start) j)
   same-first zero = same-gap
   same-first (suc j) = refl
 
-  second-follows : Follows same-bound job weights (curveRows (second (job .law)) weights)
+  second-follows : Follows same-bound job weights (curveRows alike weights)
   unfolding entryAt sumsZero sumsNext factor
   second-follows = record {
-    first = λ j h. subst (SameBound (firstEntry (job .start) j)) (sym (curve-rule (second (job .law)) weights j 0 h)) (same-first j);
-    row-zero = λ x h. curve-rule (second (job .law)) weights 0 (suc x) h;
-    row-next = λ j x h. curve-rule (second (job .law)) weights (suc j) (suc x) h;
+    first = λ j h. subst (SameBound (firstEntry (job .start) j)) (sym (curve-rule alike weights j 0 h)) (same-first j);
+    row-zero = λ x h. curve-rule alike weights 0 (suc x) h;
+    row-next = λ j x h. curve-rule alike weights (suc j) (suc x) h;
   }
 
-  pub bounds : Divisible job weights → job .law ≡ job′ .law → (x j : ℕ) → j < job .law .order
+  pub bounds : Divisible job weights → job .law ≡ job′ .law → job .zero ≡ job′ .zero → (x j : ℕ) → j < job .law .order
       → SameBound (curveRows job weights j x) (curveRows job′ weights j x)
-  bounds h same-law x j l = subst (λ law. SameBound (curveRows job weights j x) (curveRows (second law) weights j x)) same-law
-      (all-preserved same-bound job weights (divisors-pos (job .law) weights (h .divisor-pos) (h .total-pos))
-      (curveRows (second (job .law)) weights) second-follows x j l)
+  bounds h same-law same-zero x j l =
+      subst₂ (λ law w₀. SameBound (curveRows job weights j x) (curveRows (second law w₀) weights j x)) same-law same-zero
+      (all-preserved same-bound job weights (divisors-pos job weights (h .thinned-pos) (h .total-pos)) (curveRows alike weights)
+      second-follows x j l)

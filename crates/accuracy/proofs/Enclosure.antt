@@ -3,6 +3,7 @@
 use mathlib.Core.Path.{_≡_}
 use mathlib.Core.List.{List}
 use Prim.Native.Nat.{ℕ, zero, suc, _≤_, _<_}
+use native.Mathlib.Omega.{arith}
 use lib.IntN.{ℤ, pos, negsuc}
 use Rattle.algebra.specs.Fraction.{Fraction, Between}
 use Rattle.algebra.specs.Order.{OrderedRing}
@@ -17,8 +18,9 @@ use Rattle.exact.specs.Frequency.{Frequency}
 use Rattle.exact.specs.Severity.{Severity}
 use Rattle.exact.specs.Recursion.{wholeFactor}
 use Rattle.exact.proofs.Amount.{valueRow, value-amount}
-use Rattle.exact.proofs.Recursion.{recursion-value, convolution-value, first-value, first-further}
-use Rattle.exact.specs.JobAmount.{Divisible, frequency, severity, amount}
+use Rattle.exact.proofs.Recursion.{first-value, first-further}
+use Rattle.exact.proofs.Thinned.{thinned-recursion-value, thinned-convolution-value}
+use Rattle.exact.specs.JobAmount.{Divisible, givenLaw, jobLaw, jobTable, amount}
 use Rattle.outward.proofs.Enclosed.{floor-le, le-ceil}
 use Rattle.enclosure.specs.declared.Entry.{Entry}
 use Rattle.enclosure.specs.Entry.{scaled, rounded}
@@ -79,13 +81,14 @@ enclosing = record {
 }
 
 -- ---- all entries
-module _ (job : Job) (weights : List ℕ) (h : Divisible job weights) (p : Fraction)
+-- a table with zeros has no further rows
+module _ (job : Job) (weights : List ℕ) (h : Divisible job weights) (no-zeros : 1 < job .law .order → job .zero ≡ 0) (p : Fraction)
     (start : Between (firstEntry (job .start) 0 .low) (firstEntry (job .start) 0 .high) p) where
   abbrev law : Frequency
-  law = frequency (job .law) (h .divisor-pos)
+  law = jobLaw job weights h
 
   abbrev table : Severity
-  table = severity weights (h .total-pos)
+  table = jobTable job weights h
 
   first-within : (j : ℕ) → Inside (firstEntry (job .start) j) (valueRow law table p j 0)
   first-within zero = rw first-value (within-value _ _ p start)
@@ -95,13 +98,14 @@ module _ (job : Job) (weights : List ℕ) (h : Divisible job weights) (p : Fract
   unfolding factor wholeFactor int
   exact-follows = record {
     first = λ j _. first-within j;
-    row-zero = λ x _. recursion-value law table p (suc x);
-    row-next = λ j x _. convolution-value law table p j (suc x);
+    row-zero = λ x _. thinned-recursion-value (givenLaw job weights h) (job .zero) table (h .thinned-pos) p (suc x);
+    row-next = λ j x l.
+        thinned-convolution-value (givenLaw job weights h) (job .zero) table (h .thinned-pos) p j (suc x) (no-zeros (omega arith));
   }
 
   -- the rows 0 to k - 1
   enclosed : (x j : ℕ) → j < job .law .order → Inside (curveRows job weights j x) (valueRow law table p j x)
-  enclosed = all-preserved enclosing job weights (divisors-pos (job .law) weights (h .divisor-pos) (h .total-pos)) (valueRow law table p)
+  enclosed = all-preserved enclosing job weights (divisors-pos job weights (h .thinned-pos) (h .total-pos)) (valueRow law table p)
       exact-follows
 
   pub amount-enclosed : 0 < job .law .order → (x : ℕ)

@@ -105,4 +105,4 @@ module _ (job : Job) (weights : List ℕ) where
   narrow-first (suc j) = ≤ℤ-refl (pos 0)
 
   pub narrow : Divisible job weights → (x j : ℕ) → j < job .law .order → Narrow (curveRows job weights j x)
-  narrow h = all-entries narrowing job weights (divisors-pos (job .law) weights (h .divisor-pos) (h .total-pos)) narrow-first
+  narrow h = all-entries narrowing job weights (divisors-pos job weights (h .thinned-pos) (h .total-pos)) narrow-first

@@ -19,6 +19,7 @@ use Rattle.model.specs.Limits.{mostOrder, outside, beyond}
 use Rattle.model.proofs.Answer.{by-first, first-none}
 use Rattle.exact.specs.Amount.{exactAmount}
 use Rattle.exact.specs.JobAmount.{frequency, severity}
+use Rattle.exact.proofs.Thinned.{zero-weight-same-amounts}
 use Rattle.published.specs.Call.{Made, turn, turnedLaw, wrongLaw, lawOfLine}
 use Rattle.published.specs.Satisfies.{ownAmount, SameAmounts}
 use Rattle.published.proofs.Accepted.{line-accepted}
@@ -30,11 +31,12 @@ use Rattle.accuracy.proofs.Accuracy.{encloses}
 
 -- ---- the customer's own sequence
 own : (made : Made) (Line : (ℕ → Fraction) → Type 0) → SameAmounts made Line → EnclosesOwn made Line
-own made Line amounts a job weights lent ok e p line (low, high) d x l =
+own made Line amounts a job weights lent ok e no-zeros p line (low, high) d x l =
     let table = severity weights (d .total-pos) in
     let same = subst (λ (law : Law). (h : 1 ≤ law .divisor) → ownAmount p table x ≈ exactAmount (frequency law h) table (p 0) x)
     (sym e) (λ h. amounts a h p line table x) (d .divisor-pos) in
-    of-within _ _ _ (subst (Within _ _) (sym (value-eq same)) (within-value _ _ _ (encloses job weights lent ok d x l (p 0) low high)))
+    of-within _ _ _ (subst (Within _ _) (value-eq (zero-weight-same-amounts job weights d no-zeros (p 0) x) ∙ sym (value-eq same))
+    (within-value _ _ _ (encloses job weights lent ok d x l (p 0) low high)))
 
 pub encloses-published : EnclosesPublished
 encloses-published = (

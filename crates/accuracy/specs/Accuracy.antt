@@ -62,8 +62,8 @@ GapWithinBound = (job : Job) (weights : List ℕ) (lent : Lent) → Accepted job
 abbrev pub gap : Start → ℤ
 gap start = pos (start .high) -ℤ pos (start .low)
 
--- two accepted jobs alike in law, table and gap have the same bounds at each total that both reach
+-- two accepted jobs alike in law, table, with w(0) among its weights, and gap have the same bounds at each total that both reach
 abbrev pub SameBounds : Type 0
 SameBounds = (job job′ : Job) (weights : List ℕ) (lent lent′ : Lent) → Accepted job weights lent → Accepted job′ weights lent′
-    → job .law ≡ job′ .law → gap (job .start) ≡ gap (job′ .start)
+    → job .law ≡ job′ .law → job .zero ≡ job′ .zero → gap (job .start) ≡ gap (job′ .start)
     → (x : ℕ) → x ≤ job .last → x ≤ job′ .last → shown job weights lent x .bound ≡ shown job′ weights lent′ x .bound

@@ -16,11 +16,11 @@ use Rattle.rows.specs.Layout.{Lent}
 use Rattle.compound.specs.Call.{curveAnswer}
 use Rattle.accuracy.specs.Accuracy.{Accepted, shown}
 
--- a job with the law made: for every sequence with the customer's line, in units, that begins within the start, the amount at each total
--- lies from low to high
+-- a job with the law made, where no claim is of size 0: for every sequence with the customer's line, in units, that begins within the
+-- start, the amount at each total lies from low to high
 abbrev pub EnclosesOwn : Made → ((ℕ → Fraction) → Type 0) → Type 0
 EnclosesOwn made Line = made .answer ≡ accepted
-    → (job : Job) (weights : List ℕ) (lent : Lent) → Accepted job weights lent → job .law ≡ made .law
+    → (job : Job) (weights : List ℕ) (lent : Lent) → Accepted job weights lent → job .law ≡ made .law → job .zero ≡ 0
     → (p : ℕ → Fraction) → Line p → Between (pos (job .start .low)) (pos (job .start .high)) (p 0)
     → (d : Divisible job weights) (x : ℕ) → x ≤ job .last
     → Between (shown job weights lent x .low) (shown job weights lent x .high) (ownAmount p (severity weights (d .total-pos)) x)

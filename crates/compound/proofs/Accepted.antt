@@ -24,7 +24,7 @@ use Rattle.rows.specs.Faults.{faultAt, firstFault}
 use Rattle.rows.specs.Limits.{Limits}
 use Rattle.rows.proofs.Filled.{small}
 use Rattle.compound.specs.Call.{checks, faults, curveAnswer, rowAfter, ran, curveLent}
-use Rattle.compound.proofs.Call.{checked-limits}
+use Rattle.compound.proofs.Call.{checked-limits, zeros-refused}
 
 module _ (job : Job) (weights : List ℕ) (lent : Lent) (ok : curveAnswer job weights lent ≡ accepted) where
   passed : Limits job weights × LongEnough (job .last + 1) lent × (firstOf (faults job weights) ≡ accepted)
@@ -33,6 +33,10 @@ module _ (job : Job) (weights : List ℕ) (lent : Lent) (ok : curveAnswer job we
 
   pub limits : Limits job weights
   limits = passed .0
+
+  pub no-zeros : 1 < job .law .order → job .zero ≡ 0
+  unfolding curveAnswer
+  no-zeros = zeros-refused job weights lent (faults job weights) ok
 
   pub no-fault : FailBelow (faultAt (job .law .order) (curveRows job weights)) (job .last + 1)
   unfolding firstFault

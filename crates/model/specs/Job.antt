@@ -18,7 +18,7 @@ startOf low high = record { low = low; high = high }
 
 -- with X and w(0), the weight of severity 0
 abbrev pub jobOf : Law → Start → ℕ → ℕ → Job
-jobOf law start last zero = record { law = law; start = start; last = last; zero = zero }
+jobOf law start last w₀ = record { law = law; start = start; last = last; zero = w₀ }
 
 -- "D times W - A times w(0)" of a job, with A_1; 0 where that is zero or less
 abbrev pub jobDivisor : Job → List ℕ → ℕ
