@@ -141,6 +141,7 @@ SEEN = {
     "decimals in the law": (24, "decimals", with_line(FIRST, "LAW 1 1.0")),
     "decimals in a term": (24, "decimals", with_line(2, "TERM -0.5 1")),
     "a start as a chance": (24, "decimals", with_line(3, "START 0.367879441 0.367879442")),
+    "a decimal weight of size 0": (24, "decimals", with_line(5, "ZERO 0.5")),
     "a decimal weight": (24, "decimals", with_line(LAST, "W 3.7")),
     "a decimal weight without a zero": (24, "decimals", with_line(LAST, "W .7")),
     "a decimal comma": (24, "comma", with_line(LAST, "W 3,7")),
