@@ -22,9 +22,9 @@ class Rows(NamedTuple):
 
 class Case(NamedTuple):
     """What is tried, the number and place that the paper asks for, and the job. Where there is one: the closed form of the law's count
-    coefficients; the rows by hand. How many places of the low, the high, the bound and the work row are lent (if nothing is said, two more
-    than needed; the program has 512 for each of three, and 4,600 for work), and up to which total exact amounts are worked out (if nothing
-    is said, to X)."""
+    coefficients, those of severity 0 counted among the claims; the rows by hand. How many places of the low, the high, the bound and the
+    work row are lent (if nothing is said, two more than needed; the program has 512 for each of three, and 4,600 for work), and up to which
+    total exact amounts are worked out (if nothing is said, to X)."""
     name: str
     number: int
     place: int
@@ -39,9 +39,9 @@ def four(*terms):
     return [*terms, *[0] * (MOST_ORDER - len(terms))]
 
 
-def one(divisor, a, b, low, high, last, weights=(1,)):
+def one(divisor, a, b, low, high, last, weights=(1,), zero=0):
     """A job of order 1, with one severity if nothing else is said."""
-    return Job(1, divisor, four(a), four(b), low, high, list(weights), last)
+    return Job(1, divisor, four(a), four(b), low, high, list(weights), last, zero)
 
 
 def no_claims(order, low, high, last, weights=(2,)):
@@ -202,16 +202,16 @@ FAULTS = [{"order": 5}, {"divisor": 0}, {"a": four(1001)}, {"low_start": 2, "hig
           {"last": 501}]
 
 
-def faulty_from(number):
-    """A job with a fault for each refusal from `number` to 7."""
+def faulty(faults):
+    """P1 with all these faults; where two change the same part, with the first one's."""
     job = P1
-    for fault in reversed(FAULTS[number - 1:]):
+    for fault in reversed(faults):
         job = replace(job, **fault)
     return job
 
 
 ORDER = [
-    *[Case(f"faults of {number} to 8 at once", number, 1 if number == 3 else 0, faulty_from(number), lent=(0, 0, 0, 0))
+    *[Case(f"faults of {number} to 8 at once", number, 1 if number == 3 else 0, faulty(FAULTS[number - 1:]), lent=(0, 0, 0, 0))
       for number in range(1, 9)],
     Case("8 and 9", 8, 0, one(1, 0, 3, UNIT, UNIT, 1), lent=(2, 2, 2, 17)),
     Case("8 and 10", 8, 0, one(1, 0, 2, 0, UNIT, 1, [1, 1]), lent=(1, 2, 2, 18)),
@@ -362,6 +362,167 @@ ALLOWANCE = [
 ]
 
 
+# Wish 7: a weight at 0. W has it too, and V is the sum of the others; row 0's divisor is D W - A w(0), times x.
+ZERO = [
+    # 6
+    Case("w(0) 998, W 1,000", 0, 0, paper(zero=998), exact.poisson(1)),
+    Case("w(0) 999, W 1,001", 6, 0, paper(zero=999)),
+    Case("w(0) 999, V 1", 0, 0, paper(weights=[1], zero=999), exact.poisson(1)),
+    Case("w(0) 1,000, V 1", 6, 0, paper(weights=[1], zero=1000)),
+    Case("w(0) 1, V 999", 0, 0, paper(weights=[998, 1], zero=1), exact.poisson(1)),
+    Case("w(0) 1, V 1,000", 6, 0, paper(weights=[999, 1], zero=1)),
+    Case("w(0) 2 with 499 weights, W 1,000", 0, 0, paper(weights=[2] * 499, zero=2), exact.poisson(1)),
+    Case("w(0) 1 with 500 weights, W 1,001", 6, 0, paper(weights=[2] * 500, zero=1)),
+    Case("w(0) 1,001", 6, 0, paper(zero=1001)),
+    Case("w(0) 2^32 and 1", 6, 0, paper(weights=[1], zero=2 ** 32 + 1)),
+    Case("the greatest w(0)", 6, 0, paper(zero=MOST)),
+    Case("the greatest w(0), W is 0 modulo 2^64", 6, 0, paper(weights=[1], zero=MOST)),
+    Case("the greatest w(0), W is 1 modulo 2^64", 6, 0, paper(weights=[1, 1], zero=MOST)),
+    Case("w(0) 2^63, W is 5 modulo 2^64", 6, 0, paper(weights=[5, 2 ** 63], zero=2 ** 63)),
+    Case("the greatest w(0) with 500 weights of the greatest", 6, 0, paper(weights=[MOST] * 500, zero=MOST)),
+    Case("w(0) 1 and the greatest weight", 6, 0, paper(weights=[MOST], zero=1)),
+
+    # 11
+    *[Case(f"k {k}, w(0) 1", 11, 0, paper(order=k, zero=1)) for k in (2, 3, 4)],
+    *[Case(f"k {k}, w(0) 998", 11, 0, paper(order=k, zero=998)) for k in (2, 3, 4)],
+    Case("k 1, w(0) 1", 0, 0, paper(zero=1), exact.poisson(1)),
+
+    # 12: D W - A w(0) is 1, 0 or below
+    Case("D 1, A 2, w(0) 1: 3 - 2", 0, 0, one(1, 2, 0, 3, 3, 3, [2], 1), exact.geometric(2),
+         Rows([3, 12, 48, 192], [3, 12, 48, 192], [0, 0, 1, 5])),
+    Case("D 1, A 2, w(0) 1: 2 - 2", 12, 0, one(1, 2, 0, 3, 3, 3, [1], 1)),
+    Case("D 1, A 2, w(0) 2: 3 - 4", 12, 0, one(1, 2, 0, 3, 3, 3, [1], 2)),
+    Case("D 3, A 5, w(0) 1: 6 - 5", 0, 0, one(3, 5, 0, 3, 3, 2, [1], 1), exact.geometric(Fraction(5, 3)),
+         Rows([3, 15, 75], [3, 15, 75], [0, 0, 1])),
+    Case("D 3, A 5, w(0) 3: 15 - 15", 12, 0, one(3, 5, 0, 3, 3, 2, [2], 3)),
+    Case("D 3, A 5, w(0) 2: 9 - 10", 12, 0, one(3, 5, 0, 3, 3, 2, [1], 2)),
+    Case("D 1, A 999, w(0) 1: 1,000 - 999", 0, 0, one(1, 999, -999, 7, 7, 2, [999], 1), exact.finite(),
+         Rows([7, 0, 0], [7, 0, 0], [0, 0, 1])),
+    Case("D 1, A 1,000, w(0) 1: 1,000 - 1,000", 12, 0, one(1, 1000, -1000, 7, 7, 2, [999], 1)),
+    Case("D 1, A 1,000, w(0) 2: 1,000 - 2,000", 12, 0, one(1, 1000, -1000, 7, 7, 2, [998], 2)),
+    Case("D 1, A 1,000, w(0) 999, the lowest", 12, 0, one(1, 1000, -1000, 7, 7, 2, [1], 999)),
+    Case("D 999, A 1,000, w(0) 999: 999,000 - 999,000", 12, 0, one(999, 1000, 0, 7, 7, 2, [1], 999)),
+    Case("D 999, A 1,000, w(0) 998: 998,001 - 998,000", 0, 0, one(999, 1000, -1000, 7, 7, 3, [1], 998), exact.finite(),
+         Rows([7, 0, 0, 0], [7, 0, 0, 0], [0, 0, 1, 668])),
+    Case("D 1,000, A 1,000, w(0) 999: 1,000,000 - 999,000", 0, 0, one(1000, 1000, 0, 7, 7, 1, [1], 999),
+         rows=Rows([7, 7], [7, 7], [0, 1])),
+    Case("by V, D 1, A 1, w(0) 2 would be 1 - 2", 0, 0, one(1, 1, 0, 9, 9, 4, [1], 2), exact.geometric(1),
+         Rows([9] * 5, [9] * 5, [0, 0, 1, 2, 3])),
+    Case("by V, D 1, A 1, w(0) 1 would be 1 - 1", 0, 0, one(1, 1, 0, 9, 9, 4, [1], 1), exact.geometric(1),
+         Rows([9] * 5, [9] * 5, [0, 0, 1, 2, 3])),
+    Case("by B, D 1, B 2, w(0) 1 would be 2 - 2", 0, 0, one(1, 0, 2, 9, 9, 2, [1], 1), exact.poisson(2),
+         Rows([9, 9, 4], [9, 9, 5], [0, 1, 2])),
+    Case("k 2, A_1 2, w(0) 0: never 12", 0, 0, Job(2, 1, four(2), four(), 1, 1, [1], 3), exact.geometric(2),
+         Rows([1, 2, 4, 8], [1, 2, 4, 8], [0, 0, 1, 3])),
+    *[Case(f"k {k}, A_1 1,000, w(0) 0: 9 and never 12", 9, 1, Job(k, 1, four(1000), four(), UNIT, UNIT, [1], 3)) for k in (1, 2, 3, 4)],
+
+    # 13
+    Case("w(0) 1, V 0", 13, 0, paper(weights=[0], zero=1)),
+    Case("w(0) 1, 500 weights of 0", 13, 0, paper(weights=[0] * 500, zero=1)),
+    Case("w(0) 1, the last of 500 weights 1", 0, 0, paper(weights=LAST_SIZE, zero=1), exact.poisson(1)),
+    Case("w(0) 1,000, V 0", 13, 0, paper(weights=[0, 0], zero=1000)),
+    Case("w(0) 1,001, V 0", 6, 0, paper(weights=[0, 0], zero=1001)),
+    Case("the greatest w(0), V 0", 6, 0, paper(weights=[0], zero=MOST)),
+    Case("w(0) 0, V 0", 6, 0, paper(weights=[0, 0, 0])),
+    Case("w(0) 1, no weights", 5, 0, paper(weights=[], zero=1)),
+    Case("w(0) 1, 501 weights of 0", 5, 0, paper(weights=[0] * 501, zero=1)),
+    Case("D 2, A 1, V 0: 2 - 1", 13, 0, one(2, 1, 0, 7, 7, 2, [0], 1)),
+    Case("D 1, A -1, V 0: 1 + 1", 13, 0, one(1, -1, 3, 7, 7, 2, [0], 1)),
+    Case("D 1,000, A 999, V 0: 1,000,000 - 999,000", 13, 0, one(1000, 999, 0, 7, 7, 2, [0], 1000)),
+]
+
+# a fault for 6, for each of the refusals of Wish 7, and for 7, as they follow each other
+ZERO_FAULTS = [{"zero": 1001}, {"order": 2}, {"a": four(2)}, {"weights": [0], "zero": 1}, {"last": 501}]
+
+ZERO_ORDER = [
+    Case("faults of 6, 11, 12, 13, 7 and 8 at once", 6, 0, faulty(ZERO_FAULTS), lent=(0, 0, 0, 0)),
+    Case("faults of 11, 12, 13, 7 and 8 at once", 11, 0, faulty(ZERO_FAULTS[1:]), lent=(0, 0, 0, 0)),
+    Case("faults of 12, 13, 7 and 8 at once", 12, 0, faulty(ZERO_FAULTS[2:]), lent=(0, 0, 0, 0)),
+    Case("faults of 13, 7 and 8 at once", 13, 0, faulty(ZERO_FAULTS[3:]), lent=(0, 0, 0, 0)),
+    # 1 to 5 come before
+    Case("1 and 11", 1, 0, paper(order=5, zero=1)),
+    Case("2 and 12: D 0", 2, 0, one(0, 1, 0, 7, 7, 2, [1], 1)),
+    Case("3 and 12: A 1,001", 3, 1, one(1, 1001, 0, 7, 7, 2, [1], 1)),
+    Case("3 and 11: A_3 past k", 3, 3, Job(2, 1, four(0, 0, 1), four(), 7, 7, [1], 2, 1)),
+    Case("4 and 11", 4, 0, paper(order=2, low_start=2, high_start=1, zero=1)),
+    Case("4 and 13", 4, 0, paper(low_start=0, high_start=0, weights=[0], zero=1)),
+    Case("5 and 11", 5, 0, paper(order=2, weights=[], zero=1)),
+    Case("5 and 12: no weights, A is D", 5, 0, one(1, 1, 0, 7, 7, 2, [], 1)),
+    # 6
+    Case("6 and 11, by w(0)", 6, 0, paper(order=2, zero=999)),
+    Case("6 and 11, by w(1)", 6, 0, paper(order=2, weights=[1000], zero=1)),
+    Case("6 and 12", 6, 0, one(1, 2, 0, 7, 7, 2, [1], 1000)),
+    Case("6 and 13", 6, 0, paper(weights=[0], zero=1001)),
+    # 11
+    Case("11 and 12", 11, 0, Job(2, 1, four(2), four(), 7, 7, [1], 2, 1)),
+    Case("11 and 13", 11, 0, paper(order=2, weights=[0], zero=1)),
+    Case("11 and 7", 11, 0, paper(order=2, zero=1, last=501)),
+    Case("11 and 8", 11, 0, paper(order=2, zero=1), lent=(3, 4, 4, 36)),
+    # 12
+    Case("12 and 13: A is D, 1 - 1", 12, 0, one(1, 1, 0, 7, 7, 2, [0], 1)),
+    Case("12 and 13: A is above D, 1 - 2", 12, 0, one(1, 2, 0, 7, 7, 2, [0], 1)),
+    Case("12 and 13: A and D 1,000, 1,000,000 - 1,000,000", 12, 0, one(1000, 1000, 0, 7, 7, 2, [0], 1000)),
+    Case("12 and 7", 12, 0, one(1, 2, 0, 7, 7, 501, [1], 1)),
+    Case("12 and 8", 12, 0, one(1, 2, 0, 7, 7, 2, [1], 1), lent=(3, 3, 3, 26)),
+    # 13
+    Case("13 and 7", 13, 0, paper(weights=[0], zero=1, last=501)),
+    Case("13 and 8", 13, 0, paper(weights=[0], zero=1), lent=(4, 4, 3, 36)),
+    # 7 and 8
+    Case("7 with w(0) 1", 7, 0, paper(zero=1, last=501)),
+    Case("8 with w(0) 1, a place less for work", 8, 0, paper(zero=1), lent=(4, 4, 4, 35)),
+    Case("8 and 9 with w(0) 1", 8, 0, one(1, 2, 0, UNIT, UNIT, 1, [2], 1), lent=(2, 2, 2, 17)),
+]
+
+ZERO_ROWS = [
+    # two tosses, of which every other head comes to nothing: (3/4)^2, then 2 * 3/16 and 1/16
+    Case("A below 0: 2 + 1 times x; by D W, the chance of 1 would be 562500000", 0, 0, one(1, -1, 3, 562500000, 562500000, 4, [1], 1),
+         exact.binomial(2, HALF), Rows([562500000, 375000000, 62500000, 0, 0], [562500000, 375000000, 62500000, 0, 0], [0, 1, 2, 1, 2])),
+    # ratio 1/2 with half of the claims zero is ratio 1/3, and 2/3 have none
+    Case("A above 0: 4 - 1 times x; by D W, the chance of 1 would be 166666666", 0, 0, one(2, 1, 0, 666666666, 666666667, 3, [1], 1),
+         exact.negative_binomial(1, HALF),
+         Rows([666666666, 222222222, 74074074, 24691358], [666666667, 222222223, 74074075, 24691359], [1, 2, 2, 2])),
+    # P1 with half of the claims zero: e to the -1/2; then over 4, 8 and 12
+    Case("A 0: by V, the chance of 1 would be 303265329", 0, 0, one(1, 0, 1, 606530659, 606530660, 3, [1, 1], 2), exact.poisson(1),
+         Rows([606530659, 151632664, 170586747, 39487672], [606530660, 151632665, 170586749, 39487674], [1, 2, 2, 2])),
+    # over 19: 6 times 0; over 38: 8 times 1, 6 times 0; over 57: 10 times 2, 7 times 1, 18 times 0
+    Case("three sizes: 21 - 2 times x", 0, 0, one(3, 1, 2, 9000, 9019, 3, [2, 1, 2], 2), exact.negative_binomial(3, THIRD),
+         Rows([9000, 2842, 2019, 3545], [9019, 2849, 2024, 3554], [19, 7, 6, 9])),
+    # a sign that turns: over 3 and 6
+    Case("no distribution: 2 + 1 times x", 0, 0, one(1, -1, 0, 1000, 1000, 2, [1], 1), exact.geometric(-1),
+         Rows([1000, -334, 111], [1000, -333, 112], [0, 1, 2])),
+    # P2 with 999 in 1,000 zero: over 1,999 and 3,998
+    Case("w(0) 999, A -1: 1,000 + 999 times x", 0, 0, one(1, -1, 3, 250000000, 250000000, 2, [1], 999), exact.binomial(2, HALF),
+         Rows([250000000, 250125, 62], [250000000, 250126, 63], [0, 1, 2])),
+    Case("the largest divisor: 1,000,000 + 999,000, times 500", 0, 0, one(1000, -1000, 1000, UNIT, UNIT, 500, [1], 999), exact.finite(),
+         Rows([UNIT, *[0] * 500], [UNIT, *[0] * 500], [0, 1, *[2] * 499])),
+
+    # Wish 4's one, by this divisor
+    Case("a divisor of 1 at total 1; with the one, bounds at 1, 2 and 3 would be 5, 9 and 13", 0, 0, one(1, 1, 1, 7, 9, 3, [1], 2),
+         exact.negative_binomial(2, 1), Rows([7, 14, 21, 28], [9, 18, 27, 36], [2, 4, 7, 11])),
+    Case("a bound of U, divisor 1; by D W, it would be less, and with the one 10 at 1", 0, 0, one(1, 1, 0, 0, UNIT, 1, [1], 1),
+         exact.geometric(1), Rows([0, 0], [UNIT, UNIT], [UNIT, UNIT])),
+    Case("10 at 2, after a bound of U at 1", 10, 2, one(1, 1, 0, 0, UNIT, 2, [1], 1)),
+    Case("a divisor of 2 by w(0) alone; without the one, the bound at 1 would be less than the gap", 0, 0, one(1, 0, 1, 7, 9, 2, [1], 1),
+         exact.poisson(1), Rows([7, 3, 0], [9, 5, 2], [2, 2, 2])),
+    Case("a divisor of 4 - 2; by remainders, the bound at 1 would be 0", 0, 0, one(1, 2, 0, 8, 8, 2, [3], 1),
+         exact.geometric(2), Rows([8, 24, 72], [8, 24, 72], [0, 1, 4])),
+
+    # 9 and 10
+    Case("2U, divisor 1 by w(0)", 0, 0, one(1, 2, 0, 500000000, 500000000, 1, [2], 1), exact.geometric(2),
+         Rows([500000000, 2 * UNIT], [500000000, 2 * UNIT], [0, 0])),
+    Case("2U+4, divisor 1 by w(0); by D W, it would be accepted", 9, 1, one(1, 2, 0, 500000001, 500000001, 1, [2], 1)),
+    Case("2U with w(0) 1; without it, it would be 9 at 1", 0, 0, one(1, 0, 4, UNIT, UNIT, 1, [1], 1), exact.poisson(4),
+         Rows([UNIT, 2 * UNIT], [UNIT, 2 * UNIT], [0, 1])),
+    Case("9 at 4 with w(0) 1", 9, 4, one(1, 1, 1, 500000000, 500000000, 9, [1], 1)),
+    Case("9 at 4 with w(0) 1, the last total", 9, 4, one(1, 1, 1, 500000000, 500000000, 4, [1], 1), lent=needed(4)),
+    Case("and no 9 before it, with w(0) 1", 0, 0, one(1, 1, 1, 500000000, 500000000, 3, [1], 1), exact.negative_binomial(2, 1)),
+    Case("10 at 1 with w(0) 1", 10, 1, one(1, 0, 4, 0, UNIT, 1, [1], 1)),
+    Case("a bound of U by the one, with w(0) 1", 0, 0, one(1, 0, 2, 0, UNIT - 1, 1, [1], 1), exact.poisson(2),
+         Rows([0, 0], [UNIT - 1, UNIT - 1], [UNIT - 1, UNIT])),
+    Case("X 0 with w(0) 1", 0, 0, one(1, 0, 1, 0, UNIT, 0, [1], 1), exact.poisson(1), Rows([0], [UNIT], [UNIT]), needed(0)),
+]
+
+
 class Law(NamedTuple):
     """A divisor and terms by the formulas of the sources, the chance of no claims in units, and the closed form."""
     name: str
@@ -435,9 +596,39 @@ def law_case(law, table, weights, last=12, exact_to=None):
 
 LAWS_ON_TABLES = [law_case(law, table, weights) for law in LAWS for table, weights in TABLES.items()]
 
+# Laws of order 1 with half of their claims zero: U times the chance that the total is zero, which for Poisson laws is that of half the
+# mean, for binomial laws that of half the chance, and for negative binomial ones that of a ratio p/(2 - p).
+HALF_ZERO = {
+    "Poisson 3/2": (472366552, 472366553),  # e to the -3/4
+    "Poisson 7/1000": (996506117, 996506118),  # e to the -7/2000
+    "Poisson 10": (6737946, 6737947),  # e to the -5
+    "binomial 4 1/3": (482253086, 482253087),  # 5/6 to the fourth
+    "binomial 10 1/5": (348678440, 348678441),  # 9/10 to the tenth
+    "binomial 12 1/1000": (994016472, 994016473),  # 1999/2000 to the twelfth
+    "binomial 3 3/4": (244140625, 244140625),  # 5/8 to the third
+    "negative binomial 2 1/3": (640000000, 640000000),  # 4/5 squared
+    "negative binomial 1 1/2": (666666666, 666666667),  # 2/3
+    "negative binomial 5/2 1/2": (362887369, 362887370),  # 2/3 squared, times its root
+    "negative binomial 1/2 1/2": (816496580, 816496581),  # the root of 2/3
+}
+
+
+def zero_case(law, table, weights, zero, low, high, last=12, exact_to=None):
+    job = Job(1, law.divisor, four(*law.a), four(*law.b), low, high, weights, last, zero)
+    return Case(f"{law.name}, {table}, w(0) {zero}", 0, 0, job, law.closed, exact_to=exact_to)
+
+
+# with half of the claims zero; and with fewer and with more, where the start stays the chance of no claims
+ORDER_ONE = [law for law in LAWS if len(law.a) == 1]
+OTHER_ZEROS = {"two sizes alike": 1, "no size 2": 17, "a dozen sizes": 3}
+ZERO_LAWS = [
+    *[zero_case(law, table, weights, sum(weights), *HALF_ZERO[law.name]) for law in ORDER_ONE for table, weights in TABLES.items()],
+    *[zero_case(law, table, TABLES[table], zero, law.low, law.high) for law in ORDER_ONE for table, zero in OTHER_ZEROS.items()],
+]
+
 # a wide gap between the starts
 WIDE = [Case(f"{case.name}, from half the start on", 0, 0, replace(case.job, low_start=case.job.low_start // 2), case.law)
-        for case in LAWS_ON_TABLES if case.job.weights == TABLES["no size 2"]]
+        for case in LAWS_ON_TABLES + ZERO_LAWS if case.job.weights == TABLES["no size 2"]]
 
 # up to X 500; with 500 sizes the exact amounts of the first totals only, as direct convolutions take their time
 BY_NAME = {law.name: law for law in LAWS}
@@ -446,6 +637,9 @@ LONG = [
     law_case(BY_NAME["negative binomial 1 1/2"], "the 500th size alone, X 500", LAST_SIZE, 500),
     law_case(BY_NAME["Poisson 10"], "500 sizes alike, X 500", [1] * 500, 500, exact_to=40),
     law_case(BY_NAME["one to four at a time"], "500 sizes, X 500", [1 + y % 3 for y in range(500)], 500, exact_to=40),
+    zero_case(BY_NAME["Poisson 10"], "500 sizes alike, X 500", [1] * 500, 500, *HALF_ZERO["Poisson 10"], 500, exact_to=20),
+    zero_case(BY_NAME["binomial 3 3/4"], "one size, X 500", [1], 999, 15625000, 15625000, 500, exact_to=40),
 ]
 
-CASES = [*PAPER, *TEMPTING_AND_WRONG, *CHECKS, *ORDER, *RANGE_AND_BOUND, *ALLOWANCE, *LAWS_ON_TABLES, *WIDE, *LONG]
+CASES = [*PAPER, *TEMPTING_AND_WRONG, *CHECKS, *ORDER, *RANGE_AND_BOUND, *ALLOWANCE, *LAWS_ON_TABLES, *WIDE, *LONG, *ZERO, *ZERO_ORDER,
+         *ZERO_ROWS, *ZERO_LAWS]

@@ -1,9 +1,12 @@
 """Calls for the start, of a mean and of a chance with a number of trials. The paper's limits are written out in the cases, for limits.py to
 be held to. The starts are worked out apart from start.py, as the comments say, but for those that are None: these have the calculator and
 the exact checks of started.py alone."""
+from fractions import Fraction
 from typing import NamedTuple
 
+from cases_published import Known, binomial, negative_binomial, poisson
 from limits import UNIT
+from started import zero_of_mean, zero_of_shape, zero_of_trials
 
 MOST = 2 ** 64 - 1
 # Twenty times this is 4 more than 64 bits hold.
@@ -206,4 +209,56 @@ TRIALS = [
     Case("41, 42 and 43, all 0", 41, (0, 0, 0)),
     Case("41, 42 and 43, just outside", 41, (1001, 1001, 1001)),
     Case("41, 42 and 43, the greatest numbers", 41, (MOST, MOST, MOST)),
+]
+
+
+class Zeros(NamedTuple):
+    """A law, the share of its claims that are zero, its chance of no claims and the chance that the total is zero, both by a closed form as
+    two fractions that it lies between, and what a call for the start is given in order to hold the latter, by hand: a changed mean, or a
+    changed chance with a number of trials."""
+    name: str
+    law: Known
+    share: Fraction
+    none: tuple
+    zero: tuple
+    given: tuple
+
+
+def zero_mean(mean, share, *given):
+    return Zeros(f"Poisson {mean}, zeros {share}", poisson(mean), share, zero_of_mean(mean, 0), zero_of_mean(mean, share), given)
+
+
+def zero_trials(trials, chance, share, *given):
+    return Zeros(f"binomial {trials} {chance}, zeros {share}", binomial(trials, chance), share, zero_of_trials(chance, trials, 0),
+                 zero_of_trials(chance, trials, share), (*given, trials))
+
+
+def zero_shape(shape, ratio, share, *given):
+    return Zeros(f"negative binomial {shape} {ratio}, zeros {share}", negative_binomial(shape, ratio), share,
+                 zero_of_shape(ratio, shape, 0), zero_of_shape(ratio, shape, share), (*given, shape))
+
+
+# Wish 7: with a share q of zeros a mean, or the chance of a trial, changes by the factor 1 - q, and a ratio p becomes p(1 - q)/(1 - pq).
+ZEROS = [
+    zero_mean(3, Fraction(0), 3, 1),
+    zero_mean(1, Fraction(1, 2), 1, 2),
+    zero_mean(2, Fraction(1, 4), 3, 2),
+    zero_mean(Fraction(37, 10), Fraction(3, 10), 259, 100),
+    zero_mean(5, Fraction(999, 1000), 1, 200),
+    zero_mean(20, Fraction(1, 1000), 999, 50),
+
+    zero_trials(10, Fraction(1, 5), Fraction(0), 1, 5),
+    zero_trials(2, Fraction(1, 2), Fraction(1, 2), 1, 4),
+    zero_trials(4, Fraction(1, 3), Fraction(1, 4), 1, 4),
+    zero_trials(12, Fraction(1, 10), Fraction(1, 3), 1, 15),
+    zero_trials(3, Fraction(7, 10), Fraction(2, 5), 21, 50),
+    zero_trials(999, Fraction(1, 2), Fraction(499, 500), 1, 1000),
+
+    zero_shape(2, Fraction(2, 3), Fraction(0), 2, 3),
+    zero_shape(1, Fraction(1, 2), Fraction(1, 2), 1, 3),
+    zero_shape(2, Fraction(1, 3), Fraction(1, 4), 3, 11),  # 1/4 over 11/12
+    zero_shape(3, Fraction(1, 3), Fraction(2, 5), 3, 13),  # 1/5 over 13/15
+    zero_shape(3, Fraction(10, 11), Fraction(1, 2), 5, 6),  # 5/11 over 6/11
+    zero_shape(40, Fraction(1, 10), Fraction(9, 10), 1, 91),  # 1/100 over 91/100
+    zero_shape(7, Fraction(9, 10), Fraction(99, 100), 9, 109),  # 9/1000 over 109/1000
 ]

@@ -1,8 +1,9 @@
 """The calls that the program crates/calls makes, and what the calculator says to each. Checks that the calculator gives the answer that the
 case asks for, that the exact amounts of an accepted curve lie within its lows and highs and the exact chance of no claims within its start,
-that what sure and possible say of such a curve is true of its exact amounts, and what layers says of it of mean payments, that the law made
-from a customer's line follows this line, and that the program's files stdin and stdout hold just these calls and the calculator's answers;
-with --write it writes the files first."""
+that with a weight at 0 these amounts are those of Theorem 9 and this start that of a changed mean or chance, that what sure and possible
+say of such a curve is true of its exact amounts, and what layers says of it of mean payments, that the law made from a customer's line
+follows this line, and that the program's files stdin and stdout hold just these calls and the calculator's answers; with --write it writes
+the files first."""
 import pathlib
 import sys
 from collections import Counter
@@ -25,7 +26,8 @@ from published import law_hesselager, law_panjer_willmot
 from reached import answers, untrue_totals
 from sheet import read_sheet
 from start import start_of_mean, start_of_trials
-from started import outside_mean, outside_trials
+from started import outside_mean, outside_trials, outside_zero
+from summed import beside_sums, off_zero_total
 
 FOLDER = pathlib.Path(__file__).parent.parent / "crates/calls"
 
@@ -35,6 +37,9 @@ MARK = -2 ** 63
 # how often sure and possible are answered by these numbers, at least, on the curves' rows
 LEVELS = {(0, 0): 1000, (34, 0): 500, (34, 35): 100}
 
+# how many curves with a weight at 0 are set beside the sums of Theorem 9, at least: where the sum ends, and where a rest is left
+SUMS = {"whole": 40, "but for a rest": 90}
+
 # how many calls, layers and lists of amounts of each kind are tried, at least, on these rows
 PAYMENTS = {"calls": 200, "layers": 2000, "exact amounts below d": 5000, "exact amounts from d on too": 3500,
             "exact amounts that come to U": 450, "lows": 2000, "highs": 2000, "amounts between": 6000}
@@ -42,13 +47,14 @@ PAYMENTS = {"calls": 200, "layers": 2000, "exact amounts below d": 5000, "exact 
 
 class Call(NamedTuple):
     """A case as the program has it, and what is wrong with it; and of a curve, the numbers of the answers to the levels that were tried,
-    and the kinds of what was tried on layers."""
+    the kinds of what was tried on layers, and those of the sums that its amounts were set beside."""
     name: str
     record: bytes
     line: bytes
     faults: list
     levels: tuple = ()
     payments: tuple = ()
+    sums: tuple = ()
 
 
 def words(*numbers):
@@ -72,7 +78,7 @@ def differences(asked, said):
 def reader_call(case):
     read = read_sheet(case.sheet, case.places)
     job = read.job
-    numbers = [job.order, job.divisor, *job.a, *job.b, job.low_start, job.high_start, job.last, len(job.weights)]
+    numbers = [job.order, job.divisor, *job.a, *job.b, job.low_start, job.high_start, job.last, job.zero, len(job.weights)]
     weights = [f"{y}={w}" for y, w in enumerate(job.weights, 1)]
     word = [f"{byte:02x}" for byte in read.word]
     return Call(
@@ -90,14 +96,16 @@ def curve_faults(case, said, lent):
 
 
 def exact_checks(case, lent):
-    """Of an accepted curve: its faults, the numbers that sure and possible answered at the levels that were tried, and the kinds of what
-    was tried on layers."""
+    """Of an accepted curve: its faults, the numbers that sure and possible answered at the levels that were tried, the kinds of what was
+    tried on layers, and those of the sums."""
     amounts = amounts_per_unit(case.job, case.law, case.exact_to)
     levels = answers(lent, len(amounts))
     payments = list(tried_on_curve(case.job, lent, amounts))
+    sums = [beside_sums(case.job, case.law, amounts)] if case.job.zero and case.law else []
     faults = [*outside(case.job, lent, amounts), *untrue_totals(case.job, levels, amounts)]
-    faults += [fault for _, found in payments for fault in found]
-    return faults, [(said.number, may_be.number) for said, may_be in levels.values()], [kind for kind, _ in payments]
+    faults += [fault for _, found in payments + sums for fault in found]
+    numbers = [(said.number, may_be.number) for said, may_be in levels.values()]
+    return faults, numbers, [kind for kind, _ in payments], [kind for kind, _ in sums]
 
 
 def written(row):
@@ -110,14 +118,14 @@ def curve_call(case):
     places = case.lent or [n + 2 for n in cases_curve.needed(min(job.last, LAST_TOTAL))]
     lent = Lent(*([MARK] * n for n in places))
     said = curve(job, lent)
-    faults, levels, payments = exact_checks(case, lent) if said == (0, 0) else ([], [], [])
+    faults, *tried = exact_checks(case, lent) if said == (0, 0) else [[]]
     return Call(
         case.name,
-        words(2, job.order, job.divisor, *job.a, *job.b, job.low_start, job.high_start, job.last) + counted(job.weights) + words(*places),
+        words(2, job.order, job.divisor, *job.a, *job.b, job.low_start, job.high_start, job.last, job.zero) + counted(job.weights)
+        + words(*places),
         line(said, *map(written, (lent.low, lent.high, lent.bound, lent.work))),
         [*curve_faults(case, said, lent), *faults],
-        levels,
-        payments,
+        *tried,
     )
 
 
@@ -152,6 +160,14 @@ def mean_call(case):
 
 def trials_call(case):
     return start_call(case, 5, start_of_trials, outside_trials)
+
+
+def zero_start_faults(case):
+    """The start by a changed mean or chance, where a share of the claims is zero."""
+    said = start_of_mean(*case.given) if len(case.given) == 2 else start_of_trials(*case.given)
+    yield from differences(0, said.number)
+    yield from outside_zero(said, case.zero)
+    yield from off_zero_total(case.law, case.share, case.none, case.zero)
 
 
 def law_faults(case, said, off):
@@ -220,6 +236,7 @@ def main():
         (FOLDER / "stdin").write_bytes(records)
         (FOLDER / "stdout").write_bytes(b"".join(call.line for call in calls))
     faults = [f"{call.name}: {fault}" for call in calls for fault in call.faults]
+    faults += [f"{case.name}: {fault}" for case in cases_start.ZEROS for fault in zero_start_faults(case)]
     lines = stored("stdout").splitlines(keepends=True)
     for call, held in zip(calls, lines):
         if held != call.line:
@@ -230,11 +247,13 @@ def main():
         faults.append(f"stdout has {len(lines)} lines for {len(calls)} calls")
     levels = Counter(numbers for call in calls for numbers in call.levels)
     payments = Counter(kind for call in calls for kind in call.payments)
-    faults += [*too_few("levels", levels, LEVELS), *too_few("payments of layers", payments, PAYMENTS)]
+    sums = Counter(kind for call in calls for kind in call.sums)
+    faults += [*too_few("levels", levels, LEVELS), *too_few("payments of layers", payments, PAYMENTS), *too_few("sums", sums, SUMS)]
     kinds = (f"{len(cases_reader.CASES)} sheets, {len(cases_curve.CASES)} curves, {len(cases_level.CASES)} levels, "
-             f"{len(cases_start.MEANS) + len(cases_start.TRIALS)} starts, "
+             f"{len(cases_start.MEANS) + len(cases_start.TRIALS)} starts, {len(cases_start.ZEROS)} starts with claims of zero, "
              f"{len(cases_published.PANJER_WILLMOT) + len(cases_published.HESSELAGER)} laws, {len(cases_layer.CASES)} lists of layers")
-    on_curves = f"{sum(levels.values())} levels and {payments['layers']} layers on the curves"
+    on_curves = (f"{sum(levels.values())} levels and {payments['layers']} layers on the curves, amounts of "
+                 f"{sum(sums.values())} curves beside the sums of Theorem 9")
     print(*faults, f"calls: {kinds} set beside the calculator, {on_curves}, {len(faults)} faults", sep="\n")
     if faults:
         sys.exit(1)

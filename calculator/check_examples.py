@@ -1,6 +1,6 @@
-"""Sets the sheets in examples/ beside the laws that examples/README.md and docs/CLASS.md name: the starts are U times the chance of no
-claims, rounded down and up, the terms give the law's count coefficients, and the exact amounts of the law lie from the lows to the highs of
-the table that the program is to write. Every sheet there must be known here."""
+"""Sets the sheets in examples/ beside the laws that examples/README.md and docs/CLASS.md name: the starts are U times the chance that the
+total is zero, rounded down and up, the terms give the law's count coefficients, and the exact amounts of the law lie from the lows to the
+highs of the table that the program is to write. Every sheet there must be known here."""
 import math
 import pathlib
 import sys
@@ -9,8 +9,10 @@ from fractions import Fraction
 
 import exact
 import program
+from enclosed import amounts_per_unit
 from limits import MOST_WEIGHTS, UNIT
 from sheet import read_job
+from summed import beside_sums, sums_of_job
 
 FOLDER = pathlib.Path(__file__).parent.parent / "examples"
 
@@ -23,12 +25,13 @@ def e_to(power):
     return Fraction(Context(prec=50).exp(Decimal(power)))
 
 
-# The law of each sheet, by its closed form, and its chance of no claims.
+# The law of each sheet, by its closed form, and its chance of no claims. Claims of size 0 are claims here.
 LAWS = {
     "poisson.txt": (exact.poisson(2), e_to("-2")),
     "binomial.txt": (exact.binomial(12, Fraction(1, 10)), Fraction(9, 10) ** 12),
     "negative_binomial.txt": (exact.negative_binomial(3, Fraction(1, 3)), Fraction(2, 3) ** 3),
     "coin_toss.txt": (exact.binomial(3, HALF), HALF ** 3),
+    "closed_at_nothing.txt": (exact.poisson(3), e_to("-3")),
     "class/poisson.txt": (exact.poisson(1), e_to("-1")),
     "class/binomial.txt": (exact.binomial(3, Fraction(7, 10)), Fraction(3, 10) ** 3),
     # no distribution: each amount is -1/2 times the one before
@@ -41,8 +44,9 @@ LAWS = {
     "class/growing.txt": (exact.binomial(14, 4 * FIFTH), FIFTH ** 14),
     "class/turned.txt": (exact.binomial(14, 2 * FIFTH), (3 * FIFTH) ** 14),
     "class/barns.txt": (exact.poisson(2), e_to("-2")),
+    "class/closed.txt": (exact.poisson(2), e_to("-2")),
 }
-REFUSED = {"refused.txt": b"REFUSED 24 8\n", "class/growing.txt": b"REFUSED 10 19\n"}
+REFUSED = {"refused.txt": b"REFUSED 24 9\n", "older.txt": b"REFUSED 23 5\n", "class/growing.txt": b"REFUSED 10 19\n"}
 
 
 def term_faults(job, law):
@@ -50,6 +54,11 @@ def term_faults(job, law):
     by_terms = exact.by_terms(job.divisor, job.a[:job.order], job.b[:job.order])
     if any(by_terms(n) != law(n) for n in range(21)):
         yield "the TERM lines are not those of the law"
+
+
+def zero_total(job, law, none):
+    """The chance that the total is zero, by Theorem 9 of source document 002: the sum of p_n q^n."""
+    return none * sums_of_job(job, law, 0)[0][0] if job.zero else none
 
 
 def start_faults(job, start):
@@ -61,9 +70,12 @@ def table_faults(job, table, law, start):
     heading, *lines = table.splitlines()
     if len(lines) != job.last + 1:
         yield f"no table, but {heading!r}"
+    amounts = amounts_per_unit(job, law)
+    if job.zero:
+        yield from beside_sums(job, law, amounts)[1]
     for line in lines:
         total, low, high, _ = map(int, line.split())
-        amount = exact.amount(law, job.weights, start, total)
+        amount = start * amounts[total]
         if not low <= amount <= high:
             yield f"at {total}: the exact amount, about {float(amount)}, is not from {low} to {high}"
 
@@ -76,10 +88,11 @@ def faults(name):
     if name in LAWS:
         law, none = LAWS[name]
         job = read_job(sheet, MOST_WEIGHTS)
+        start = UNIT * zero_total(job, law, none)
         yield from term_faults(job, law)
-        yield from start_faults(job, UNIT * none)
+        yield from start_faults(job, start)
         if name not in REFUSED:
-            yield from table_faults(job, table, law, UNIT * none)
+            yield from table_faults(job, table, law, start)
 
 
 def main():

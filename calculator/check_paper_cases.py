@@ -31,12 +31,12 @@ def answer(number, place):
 
 def job_record(job):
     law = {"order": job.order, "divisor": job.divisor, "a": job.a, "b": job.b}
-    return {"law": law, "start": {"low": job.low_start, "high": job.high_start}, "last": job.last}
+    return {"law": law, "start": {"low": job.low_start, "high": job.high_start}, "last": job.last, "zero": job.zero}
 
 
 def job_of(record, weights):
     law, start = record["law"], record["start"]
-    return Job(law["order"], law["divisor"], law["a"], law["b"], start["low"], start["high"], weights, record["last"])
+    return Job(law["order"], law["divisor"], law["a"], law["b"], start["low"], start["high"], weights, record["last"], record["zero"])
 
 
 def on_curve(job, weights, lent):
@@ -103,8 +103,9 @@ def on_program(sheet):
     return {"text": output(bytes(sheet)).decode()}
 
 
-# each with the number of rows that there are at least
-KINDS = {"curve": (on_curve, 17), "reader": (on_reader, 8), "level": (on_level, 14), "layers": (on_layers, 13),
+# each with the number of rows that there are at least; and so many curves have a weight at 0
+WITH_ZERO = 4
+KINDS = {"curve": (on_curve, 17 + WITH_ZERO), "reader": (on_reader, 8), "level": (on_level, 14), "layers": (on_layers, 13),
          "mean": (on_mean, 7), "trials": (on_trials, 10), "panjerWillmot": (on_panjer_willmot, 9), "hesselager": (on_hesselager, 7),
          "program": (on_program, 5)}
 
@@ -136,7 +137,7 @@ WORDS = {
     "ascii": lambda text: list(text.encode()),
     "lawOf": lambda order: lambda divisor: lambda a: lambda b: {"order": order, "divisor": divisor, "a": a, "b": b},
     "startOf": lambda low: lambda high: {"low": low, "high": high},
-    "jobOf": lambda law: lambda start: lambda last: {"law": law, "start": start, "last": last},
+    "jobOf": lambda law: lambda start: lambda last: lambda zero: {"law": law, "start": start, "last": last, "zero": zero},
     "partOf": lambda start: lambda count: {"start": start, "count": count},
     "layerList": lambda count: lambda from_: lambda to: {"count": count, "attachments": array(from_), "limits": array(to)},
     "accepted": answer(0, 0),
@@ -243,6 +244,10 @@ def table(source):
 
 # ---- both beside each other
 
+def has_zero(row):
+    return row.kind == "curve" and row.parts()[0][0]["zero"] != 0
+
+
 def is_accepted_curve(row):
     return row.kind == "curve" and row.parts()[1][0] == answer(0, 0)
 
@@ -271,7 +276,7 @@ def main():
     accepted = sum(map(is_accepted_curve, rows))
     print(f"the paper's cases: {len(rows)} rows set beside the calculator, {accepted} of them with exact amounts, {wrong} differ")
     kinds = Counter(row.kind for row in rows)
-    if wrong or any(kinds[kind] < least for kind, (_, least) in KINDS.items()):
+    if wrong or any(kinds[kind] < least for kind, (_, least) in KINDS.items()) or sum(map(has_zero, rows)) < WITH_ZERO:
         sys.exit(1)
 
 

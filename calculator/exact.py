@@ -55,6 +55,13 @@ def by_terms(divisor, a, b):
     return coefficient
 
 
+def not_zero(a, b, q):
+    """The clerk's terms, which are those of the law of the claims that are not zero: "terms a and b, each times (1 - q) over (1 - aq)",
+    where q is the share of the claims that are zero."""
+    factor = (1 - q) / (1 - a * q)
+    return a * factor, b * factor
+
+
 def convolutions(weights, last):
     """For n from 0 to `last`: the chances that n claims come to 0, 1, .. `last`."""
     whole = sum(weights)

@@ -1,22 +1,22 @@
 """The same recursion with one number for each total, rounded to the nearest billionth, as programs do that know no low and high. It is no
 part of the paper: docs/CLASS.md sets it beside the tool's table. As a script, `nearest.py SHEET START` prints the chances of the sheet's
-totals with nine digits; START is the chance of no claims in billionths, a whole number."""
+totals with nine digits; START is the chance that the total is zero in billionths, a whole number."""
 import pathlib
 import sys
 from fractions import Fraction
 
 from limits import MOST_WEIGHTS, UNIT
+from outward import thinned_divisor, whole
 from sheet import Refused, read_job
 
 
 def next_values(job, earlier):
     """The values of rows 0 to k-1 at the next total x, from those at the totals 0 to x-1."""
     x = len(earlier)
-    whole = sum(job.weights)
     reached = list(enumerate(job.weights, 1))[:x]
     curve = sum((job.a[i] * x + job.b[i] * y) * w * earlier[x - y][i] for i in range(job.order) for y, w in reached)
-    further = [round(Fraction(sum(w * earlier[x - y][j - 1] for y, w in reached), whole)) for j in range(1, job.order)]
-    return [round(Fraction(curve, job.divisor * x * whole)), *further]
+    further = [round(Fraction(sum(w * earlier[x - y][j - 1] for y, w in reached), whole(job))) for j in range(1, job.order)]
+    return [round(Fraction(curve, thinned_divisor(job) * x)), *further]
 
 
 def nearest(job, start):

@@ -1,4 +1,4 @@
-"""The outward rule and the curve call as the paper and Wish 4 have them, in Python's whole numbers."""
+"""The outward rule and the curve call as the paper and Wishes 4 and 7 have them, in Python's whole numbers."""
 from dataclasses import dataclass
 
 from limits import LAST_TOTAL, MOST_BOUND, MOST_DIVISOR, MOST_END, MOST_ORDER, MOST_SUM, MOST_TERM, MOST_WEIGHTS, UNIT, WORK_COLUMNS
@@ -6,7 +6,7 @@ from limits import LAST_TOTAL, MOST_BOUND, MOST_DIVISOR, MOST_END, MOST_ORDER, M
 
 @dataclass
 class Job:
-    """k, D, A_1..A_4, B_1..B_4, s, t, the weights w(1)..w(m) and X."""
+    """k, D, A_1..A_4, B_1..B_4, s, t, the weights w(1)..w(m), X, and the weight w(0) of severity 0."""
     order: int
     divisor: int
     a: list
@@ -15,6 +15,7 @@ class Job:
     high_start: int
     weights: list
     last: int
+    zero: int = 0
 
 
 @dataclass
@@ -33,6 +34,16 @@ def down(n, d):
 
 def up(n, d):
     return -((-n) // d)
+
+
+def whole(job):
+    """W: the weight of severity 0 is counted too."""
+    return job.zero + sum(job.weights)
+
+
+def thinned_divisor(job):
+    """What row 0 divides by at total 1, and x times as much at total x: "D times W - A times w(0)"."""
+    return job.divisor * whole(job) - job.a[0] * job.zero
 
 
 def first_entries(job):
@@ -56,19 +67,18 @@ def outward(products, divisor):
 
 
 def next_entries(job, earlier):
-    """The entries of rows 0 to k-1 at the next total x, from those at the totals 0 to x-1."""
+    """The entries of rows 0 to k-1 at the next total x, from those at the totals 0 to x-1. The sums have severities from 1 on alone."""
     x = len(earlier)
-    whole = sum(job.weights)
     reached = list(enumerate(job.weights, 1))[:x]
     curve = [((job.a[i] * x + job.b[i] * y) * w, earlier[x - y][i]) for i in range(job.order) for y, w in reached]
-    entries = [outward(curve, job.divisor * x * whole)]
+    entries = [outward(curve, thinned_divisor(job) * x)]
     for j in range(1, job.order):
-        entries.append(outward([(w, earlier[x - y][j - 1]) for y, w in reached], whole))
+        entries.append(outward([(w, earlier[x - y][j - 1]) for y, w in reached], whole(job)))
     return entries
 
 
-def first_check(job, lent):
-    """Refusals 1 to 8, or None."""
+def check_law(job):
+    """Refusals 1 to 3 as number and place, or None."""
     if not 1 <= job.order <= MOST_ORDER:
         return 1, 0
     if not 1 <= job.divisor <= MOST_DIVISOR:
@@ -77,18 +87,42 @@ def first_check(job, lent):
         limit = MOST_TERM if i < job.order else 0
         if abs(job.a[i]) > limit or abs(job.b[i]) > limit:
             return 3, i + 1
-    if not (0 <= job.low_start <= job.high_start <= UNIT and job.high_start >= 1):
-        return 4, 0
+    return None
+
+
+def check_start(job):
+    """Refusal 4, or None."""
+    return None if 0 <= job.low_start <= job.high_start <= UNIT and job.high_start >= 1 else (4, 0)
+
+
+def check_table(job):
+    """Refusals 5, 6, 11, 12 and 13, in this order, or None."""
     if not 1 <= len(job.weights) <= MOST_WEIGHTS:
         return 5, 0
-    if not 1 <= sum(job.weights) <= MOST_SUM:
+    if not 1 <= whole(job) <= MOST_SUM:
         return 6, 0
+    if job.zero != 0 and job.order > 1:
+        return 11, 0
+    if thinned_divisor(job) <= 0:
+        return 12, 0
+    if sum(job.weights) == 0:
+        return 13, 0
+    return None
+
+
+def check_places(job, lent):
+    """Refusals 7 and 8, or None."""
     if not 0 <= job.last <= LAST_TOTAL:
         return 7, 0
     places = job.last + 1
     if min(len(lent.low), len(lent.high), len(lent.bound)) < places or len(lent.work) < WORK_COLUMNS * places:
         return 8, 0
     return None
+
+
+def first_check(job, lent):
+    """The refusals that write nothing, or None."""
+    return check_law(job) or check_start(job) or check_table(job) or check_places(job, lent)
 
 
 def fault(entries, x):

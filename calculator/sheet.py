@@ -1,4 +1,4 @@
-"""The sheet reader as the paper says it: a sheet is cut at its line ends and its spaces, and each word is held to a pattern."""
+"""The sheet reader as the paper and Wish 7 say it: a sheet is cut at its line ends and its spaces, and each word is held to a pattern."""
 import re
 from dataclasses import dataclass
 
@@ -74,13 +74,14 @@ def read_job(sheet, places):
     terms = [lines.numbers(b"TERM", 2, SIGNED) for _ in range(order)] + [[0, 0]] * (MOST_ORDER - order)
     low, high = lines.numbers(b"START", 2)
     last, = lines.numbers(b"LAST", 1)
+    zero, = lines.numbers(b"ZERO", 1)
     count, = lines.numbers(b"SEVERITY", 1)
     lines.limit(count, 1, MOST_WEIGHTS)
     if places < count:
         raise Refused(27, lines.taken)
     weights = [lines.numbers(b"W", 1)[0] for _ in range(count)]
     lines.finish()
-    return Job(order, divisor, [a for a, _ in terms], [b for _, b in terms], low, high, weights, last)
+    return Job(order, divisor, [a for a, _ in terms], [b for _, b in terms], low, high, weights, last, zero)
 
 
 def read_sheet(sheet, places):

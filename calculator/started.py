@@ -1,4 +1,5 @@
-"""Whether an accepted start holds the exact chance of no claims, and whether a curve takes it."""
+"""Whether an accepted start holds the exact chance of no claims, and whether a curve takes it. And the chance that the total is zero where
+a share q of the claims is: the law's generating function at q."""
 from fractions import Fraction
 from functools import cache
 from itertools import cycle
@@ -39,6 +40,21 @@ def not_taken(said):
         yield f"{said.low} and {said.high} are no start for a curve"
 
 
+def zero_of_mean(mean, q):
+    """Of a Poisson law; two fractions that it lies between."""
+    return tuple(partial_sum(Fraction(mean) * (q - 1), last) for last in (BELOW, ABOVE))
+
+
+def zero_of_trials(chance, trials, q):
+    """Of a binomial law; as for the others, two fractions, which are the same here."""
+    return ((1 - chance + chance * q) ** trials,) * 2
+
+
+def zero_of_shape(ratio, shape, q):
+    """Of a negative binomial law whose shape is whole."""
+    return (((1 - ratio) / (1 - ratio * q)) ** shape,) * 2
+
+
 def outside_mean(said, upper, lower):
     mean = Fraction(upper, lower)
     yield from not_taken(said)
@@ -46,6 +62,13 @@ def outside_mean(said, upper, lower):
         yield from not_held(said, f"the product of partial sums to the terms {last_terms}", product(mean, last_terms))
     for last in BELOW, ABOVE:
         yield from not_held(said, f"e to the minus mean, by the sum to term {last}", partial_sum(-mean, last))
+
+
+def outside_zero(said, zero):
+    """The chance that the total is zero lies between two fractions."""
+    yield from not_taken(said)
+    for end in zero:
+        yield from not_held(said, "the chance that the total is zero", end)
 
 
 def outside_trials(said, upper, lower, trials):
