@@ -8,8 +8,8 @@ use Rattle.exact.proofs.Limit.{finite-is-thinned, distribution-is-thinned}
 use Rattle.accuracy.specs.Zeros.{withZeros, EnclosesWithZeros, EnclosesLimitWithZeros}
 use Rattle.accuracy.proofs.Accuracy.{encloses}
 
-plus-mono : {x y e : Fraction} → x ≼ y → (x ⊕ e) ≼ (y ⊕ e)
-plus-mono {x} {y} {e} h = le-of-value (rw (value-plus x e, value-plus y e) (order .add-le (value e) (value-le h)))
+plus-mono : {x y : Fraction} (e : Fraction) → x ≼ y → x ⊕ e ≼ y ⊕ e
+plus-mono {x} {y} e h = le-of-value (rw (value-plus x e, value-plus y e) (order .add-le (value e) (value-le h)))
 
 pub encloses-with-zeros : EnclosesWithZeros
 encloses-with-zeros job weights lent ok one h p n ends (low, high) x l =
@@ -23,4 +23,4 @@ encloses-limit-with-zeros job weights lent ok one h p count x l =
     (N, K, λ n above start.
     let inside = encloses job weights lent ok h x l (withZeros job weights h p n 0) (start .0) (start .1) in
     let close = near n above in
-    (≼-trans (inside .0) (close .1), ≼-trans (close .0) (plus-mono (inside .1))))
+    (≼-trans (inside .0) (close .1), ≼-trans (close .0) (plus-mono _ (inside .1))))
