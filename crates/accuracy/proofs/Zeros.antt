@@ -19,8 +19,11 @@ encloses-with-zeros job weights lent ok one h p n ends (low, high) x l =
 
 pub encloses-limit-with-zeros : EnclosesLimitWithZeros
 encloses-limit-with-zeros job weights lent ok one h p count x l =
-    let (N, K, near) = distribution-is-thinned (givenLaw job weights h) one (job .zero) (jobTable job weights h) (h .thinned-pos) count p x in
-    (N, K, λ n above start.
-    let inside = encloses job weights lent ok h x l (withZeros job weights h p n 0) (start .0) (start .1) in
-    let close = near n above in
-    (≼-trans (inside .0) (close .1), ≼-trans (close .0) (plus-mono _ (inside .1))))
+    let (N, K, near) = distribution-is-thinned (givenLaw job weights h) one (job .zero) (jobTable job weights h) (h .thinned-pos) count p x in (
+      N,
+      K,
+      λ n above start.
+          let inside = encloses job weights lent ok h x l (withZeros job weights h p n 0) (start .0) (start .1) in
+          let close = near n above in
+          (≼-trans (inside .0) (close .1), ≼-trans (close .0) (plus-mono _ (inside .1))),
+    )
