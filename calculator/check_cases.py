@@ -14,17 +14,32 @@ LAWS = {
     "together": exact.together(exact.negative_binomial(2, Fraction(1, 2)), exact.binomial(2, Fraction(1, 2))),
     "paired": exact.bunches(2, exact.poisson(Fraction(1, 2))),
 }
+# where a claim is of size 0 with chance q: the closed forms of the claims that are not zero
+THINNED = {
+    "poisson": lambda q: exact.poisson(Fraction(3, 2) * (1 - q)),
+    "binomial": lambda q: exact.binomial(4, Fraction(1, 3) * (1 - q)),
+    "negativeBinomial": lambda q: exact.negative_binomial(2, Fraction(1, 3) * (1 - q) / (1 - Fraction(1, 3) * q)),
+}
 TABLES = {"single": [1], "two": [1, 1], "gap": [2, 0, 1], "four": [3, 1, 4, 1]}
 
 INTEGER = r"(?:pos|negsuc) \d+"
 FRACTION = rf"\((?:whole \({INTEGER}\)|over \({INTEGER}\) \d+ \(lit≤ tt\))\)"
-ROW = re.compile(rf"^    (?:∷ )?row (\w+) (\w+) ({FRACTION}) (\d+) ({FRACTION})$")
+LAW = r"\w+|\(thinnedLaw \w+ \d+ \w+ \(lit≤ tt\)\)"
+ROW = re.compile(rf"^    (?:∷ )?row ({LAW}) (\w+) ({FRACTION}) (\d+) ({FRACTION})$")
 
 
 def fraction(text):
     sign, upper, lower = re.match(r"\(\w+ \((\w+) (\d+)\)(?: (\d+))?", text).groups()
     upper = int(upper) if sign == "pos" else -1 - int(upper)
     return Fraction(upper, int(lower or 1))
+
+
+def coefficients(law):
+    """The count coefficients of a row's law. A thinned law names the law, the weight of size 0 and the table beside which that stands."""
+    if law in LAWS:
+        return LAWS[law]
+    name, zero, table = re.match(r"\(thinnedLaw (\w+) (\d+) (\w+)", law).groups()
+    return THINNED[name](Fraction(int(zero), int(zero) + sum(TABLES[table])))
 
 
 def main():
@@ -36,7 +51,7 @@ def main():
         if not row:
             sys.exit(f"no row of the table: {line}")
         law, table, start, total, stated = row.groups()
-        found = exact.amount(LAWS[law], TABLES[table], fraction(start), int(total))
+        found = exact.amount(coefficients(law), TABLES[table], fraction(start), int(total))
         if found != fraction(stated):
             wrong += 1
             print(f"{law} {table} at {total}: the table has {fraction(stated)}, the calculator {found}")

@@ -12,7 +12,7 @@ use Rattle.algebra.specs.Order.{OrderedRing}
 use Rattle.algebra.specs.Sum.{accumulate, sum, sumℤ}
 use Rattle.algebra.specs.Fraction.{Fraction, over, whole, _⊕_, _⊗_, overSuc, _≈_, _≼_, Between, oneTo, zeroTo, product}
 use Rattle.algebra.proofs.Semiring.{ring, ring-units, nat-zero, nat-suc}
-use Rattle.algebra.proofs.Ring.{int-add, int-neg, neg-unique}
+use Rattle.algebra.proofs.Ring.{int-pos, int-add, int-neg, neg-unique}
 use Rattle.algebra.proofs.Integer.{integers, signed, split-add, *ℤ-mono, *ℤ-cancel-le}
 use Rattle.algebra.proofs.Order.{rewritten, add-mono, neg-mono, sum-mono}
 use Rattle.algebra.proofs.Sum.{sum-related}
@@ -113,6 +113,14 @@ times-nat n x y e = ap (λ (v : A). v · value x) (sym (value-nat n)) ∙ sym (v
 pub value-over : (z : ℤ) (n : ℕ) (h : 1 ≤ n) → nat ℚ n · value (over z n h) ≡ int (order .ring) z
 unfolding whole over _⊗_
 value-over z n h = times-nat n (over z n h) (whole z) (record { across = over-itself Z (pos n) z }) ∙ value-int z
+
+-- a natural number over another, and the numbers of a fraction
+pub value-over-nat : (m n : ℕ) (h : 1 ≤ n) → nat ℚ n · value (over (pos m) n h) ≡ nat ℚ m
+value-over-nat m n h = value-over (pos m) n h ∙ int-pos (order .ring) m
+
+pub value-upper : (x : Fraction) → nat ℚ (x .lower) · value x ≡ int (order .ring) (x .upper)
+unfolding over
+value-upper x = value-over (x .upper) (x .lower) (x .lower-pos)
 
 pub value-overSuc : (x : Fraction) (n : ℕ) → nat ℚ (suc n) · value (overSuc x n) ≡ value x
 unfolding whole over overSuc _⊗_

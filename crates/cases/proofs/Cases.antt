@@ -32,7 +32,7 @@ use Rattle.text.specs.Numbers.{valueFrom, number, digitsWithin, decimal}
 use Rattle.text.specs.LineText.{lineText}
 use Rattle.table.specs.Lines.{totalLines}
 use Rattle.lines.specs.Line.{allNumbers, line}
-use Rattle.grammar.specs.Reading.{weightLines, severityLine, lastLine, startLine, termLines, lawLine, reading}
+use Rattle.grammar.specs.Reading.{weightLines, severityLine, zeroLine, lastLine, startLine, termLines, lawLine, reading}
 use Rattle.sheet.specs.Call.{Told, told, rowOnReturn}
 use Rattle.fault.specs.declared.Part.{Part}
 use Rattle.fault.specs.Call.{firstNoNumber, faultyWord, partOf, firstPart, faultyPart}
@@ -61,8 +61,8 @@ toldBy : List ℕ → List (List ℤ) → List ℕ → Told
 toldBy numbers terms weights = record {
   answer = refused (getD numbers 0 0) (getD numbers 1 0);
   job = jobOf (lawOf (getD numbers 2 0) (getD numbers 3 0) (getD terms 0 []) (getD terms 1 []))
-      (startOf (getD numbers 4 0) (getD numbers 5 0)) (getD numbers 6 0);
-  count = getD numbers 7 0;
+      (startOf (getD numbers 4 0) (getD numbers 5 0)) (getD numbers 6 0) (getD numbers 7 0);
+  count = getD numbers 8 0;
   weights = weights;
 }
 
@@ -195,7 +195,7 @@ pub cases-hold : CasesHold
 unfolding curveAnswer curveLent rowAfter rangeFault firstFault curveRows history withNext entryAt sumsNext sumsZero divisorZero factor
     allowance rounded scaled
     firstOf ceilDiv floorDiv accumulate smallest listed
-    reading lawLine termLines startLine lastLine severityLine weightLines line allNumbers firstNoNumber firstPart
+    reading lawLine termLines startLine lastLine zeroLine severityLine weightLines line allNumbers firstNoNumber firstPart
     number valueFrom words longer afterLines before after has
     sureQuery possibleQuery quantileOf
     layerCosts layerChecks costBy saving

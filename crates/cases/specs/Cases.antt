@@ -1,6 +1,6 @@
 -- "Cases on each limit", P1 to P12, as rows of one table, and more of the paper's calls. The numbers are the paper's, with the bounds of
--- P2, P4 and P6 as Wish 4 has them, and P9 and P10 asked of the two calls of Wish 5; what is not printed follows from the rules, and
--- calculator/check_paper_cases.py works every row out apart from these definitions.
+-- P2, P4 and P6 as Wish 4 has them, P9 and P10 asked of the two calls of Wish 5, and the line ZERO of Wish 7 in every sheet; what is not
+-- printed follows from the rules, and calculator/check_paper_cases.py works every row out apart from these definitions.
 use mathlib.Core.Path.{_≡_}
 use mathlib.Core.Bool.{Bool, _&&_}
 use mathlib.Core.List.{List, [], _∷_, _++_, map, List·Memᴰ}
@@ -95,10 +95,10 @@ abbrev cleared : (X : ℕ) → Lent
 cleared X = holding (replicate (X + 1) (pos 0)) (replicate (X + 1) (pos 0)) (replicate (X + 1) (pos 0)) X
 
 -- ---- sheets
--- the paper's sheet, that of P1, with two of its lines left open
-abbrev sheet : (line2 line6 : String) → List ℕ
-sheet line2 line6 =
-    ascii "LAW 1 1\n" ++ ascii line2 ++ ascii "\nSTART 367879441 367879442\nLAST 3\nSEVERITY 2\n" ++ ascii line6 ++ ascii "\nW 1\n"
+-- the paper's sheet, that of P1, with two of its lines left open; "P1's sheet gains `ZERO 0`"
+abbrev sheet : (line2 line7 : String) → List ℕ
+sheet line2 line7 =
+    ascii "LAW 1 1\n" ++ ascii line2 ++ ascii "\nSTART 367879441 367879442\nLAST 3\nZERO 0\nSEVERITY 2\n" ++ ascii line7 ++ ascii "\nW 1\n"
 
 -- the lent row has one place more than the sheet has weights
 abbrev places : List ℕ
@@ -112,7 +112,7 @@ acceptance s job weights after =
 -- "A refusal writes nothing.", and its other numbers are 0; the word is so many bytes of the sheet, from byte `start` on
 abbrev refusal : (s : List ℕ) (number line : ℕ) (word : String) (start count : ℕ) → Case
 refusal s number line word start count =
-    reader s places (record { answer = refused number line; job = jobOf (law 0 0 [] []) (startOf 0 0) 0; count = 0; weights = [] }) places
+    reader s places (record { answer = refused number line; job = jobOf (law 0 0 [] []) (startOf 0 0) 0 0; count = 0; weights = [] }) places
     (ascii word) (partOf start count)
 
 -- ---- level queries
@@ -163,11 +163,16 @@ notMade number = record { answer = refused number 0; law = law 0 0 [] [] }
 abbrev call : (job : Job) (weights : List ℕ) (answer : Answer) (after : ℕ → Lent) → Case
 call job weights answer after = curve job weights (lentFor (job .last)) answer (after (job .last))
 
+-- a job whose table has a weight for severity 0
+abbrev zeros : (law : Law) (start : Start) (X w₀ : ℕ) (weights : List ℕ) (answer : Answer) (after : ℕ → Lent) → Case
+zeros law start X w₀ = call (jobOf law start X w₀)
+
+-- and one without
 abbrev row : (law : Law) (start : Start) (X : ℕ) (weights : List ℕ) (answer : Answer) (after : ℕ → Lent) → Case
-row law start X = call (jobOf law start X)
+row law start X = zeros law start X 0
 
 abbrev jobP1 : Job
-jobP1 = jobOf (law 1 1 (pos 0 ∷ []) (pos 1 ∷ [])) (startOf 367879441 367879442) 3
+jobP1 = jobOf (law 1 1 (pos 0 ∷ []) (pos 1 ∷ [])) (startOf 367879441 367879442) 3 0
 
 -- P1, as the program writes it
 abbrev lowP1 : List ℤ
@@ -211,6 +216,17 @@ lawP6 = law 1 1 (pos 0 ∷ []) (pos 1 ∷ [])
 abbrev startP6 : Start
 startP6 = startOf 0 1000000000
 
+-- D 1, A 1, B 0, with which D W - A w(0) is w(1) + .. + w(m)
+abbrev lawOne : Law
+lawOne = law 1 1 (pos 1 ∷ []) (pos 0 ∷ [])
+
+abbrev startOne : Start
+startOne = startOf 400000001 400000002
+
+abbrev rowsOne : (X : ℕ) → Lent
+rowsOne = holding (map pos (400000001 ∷ 400000001 ∷ 400000001 ∷ [])) (map pos (400000002 ∷ 400000002 ∷ 400000002 ∷ []))
+    (map pos (1 ∷ 1 ∷ 2 ∷ []))
+
 abbrev pub cases : List Case
 cases =
     -- P1: "the job above", that of the sheet
@@ -252,29 +268,67 @@ cases =
     ∷ row lawP2 startP2 501 (1 ∷ []) (refused 7 0) untouched
     -- "k 5 gives 1 at the curve"
     ∷ row (law 5 1 (negℤ (pos 1) ∷ []) (pos 3 ∷ [])) startP2 4 (1 ∷ []) (refused 1 0) untouched
+    -- one claim in three closes at nothing: P1's law, of mean 1, has the amounts of mean 2/3
+    ∷ zeros (jobP1 .law) (startOf 600000000 600000000) 2 1 (1 ∷ 1 ∷ []) accepted
+    (holding (map pos (600000000 ∷ 200000000 ∷ 233333333 ∷ [])) (map pos (600000000 ∷ 200000000 ∷ 233333334 ∷ []))
+    (map pos (0 ∷ 1 ∷ 2 ∷ [])))
+    -- one in two: A below 0, P2's law of 2 trials of chance 1/2 has the amounts of chance 1/4
+    ∷ zeros lawP2 (startOf 562500000 562500000) 3 1 (1 ∷ []) accepted
+    (holding (map pos (562500000 ∷ 375000000 ∷ 62500000 ∷ 0 ∷ [])) (map pos (562500000 ∷ 375000000 ∷ 62500000 ∷ 0 ∷ []))
+    (map pos (0 ∷ 1 ∷ 2 ∷ 1 ∷ [])))
+    -- A above 0: the negative binomial law of shape 2 with a 1/2 has the amounts of a 1/3
+    ∷ zeros (law 1 2 (pos 1 ∷ []) (pos 1 ∷ [])) (startOf 444444444 444444445) 2 1 (1 ∷ []) accepted
+    (holding (map pos (444444444 ∷ 296296296 ∷ 148148148 ∷ [])) (map pos (444444445 ∷ 296296297 ∷ 148148149 ∷ []))
+    (map pos (1 ∷ 2 ∷ 2 ∷ [])))
+    -- D W - A w(0) is 1, so that at total 1 nothing is rounded
+    ∷ zeros lawOne startOne 2 5 (1 ∷ []) accepted rowsOne
+    -- "counted in W": 999 and 1 are accepted, 1,000 and 1 are not, nor is any larger number; 6 comes before 11
+    ∷ zeros lawP6 (startOf 1000 1000) 1 999 (1 ∷ []) accepted
+    (holding (map pos (1000 ∷ 1 ∷ [])) (map pos (1000 ∷ 1 ∷ [])) (map pos (0 ∷ 1 ∷ [])))
+    ∷ zeros lawP6 (startOf 1000 1000) 1 1000 (1 ∷ []) (refused 6 0) untouched
+    ∷ zeros lawP6 (startOf 1000 1000) 1 18446744073709551615 (1 ∷ []) (refused 6 0) untouched
+    ∷ zeros lawP4 startP4 2 1000 (1 ∷ []) (refused 6 0) untouched
+    -- "with 11, after 6, a nonzero weight at 0 when k is above 1", before 12
+    ∷ zeros lawP4 startP4 2 1 (1 ∷ []) (refused 11 0) untouched
+    ∷ zeros (law 2 1 (pos 3 ∷ pos 0 ∷ []) (pos 0 ∷ pos 1 ∷ [])) startP4 2 1 (1 ∷ []) (refused 11 0) untouched
+    -- "then 12 a D times W - A times w(0) of zero or less": 0, -1, and 1, which is accepted; before 13
+    ∷ zeros (law 1 1 (pos 2 ∷ []) (pos 0 ∷ [])) startP4 1 1 (1 ∷ []) (refused 12 0) untouched
+    ∷ zeros (law 1 1 (pos 3 ∷ []) (pos 0 ∷ [])) startP4 1 1 (1 ∷ []) (refused 12 0) untouched
+    ∷ zeros (law 1 1 (pos 2 ∷ []) (pos 0 ∷ [])) (startOf 5 6) 1 1 (1 ∷ 1 ∷ []) accepted
+    (holding (map pos (5 ∷ 10 ∷ [])) (map pos (6 ∷ 12 ∷ [])) (map pos (1 ∷ 2 ∷ [])))
+    ∷ zeros lawOne startOne 1 1 (0 ∷ []) (refused 12 0) untouched
+    -- "then 13 a table whose other weights are all 0", before 7
+    ∷ zeros lawP6 startP6 501 1 (0 ∷ 0 ∷ []) (refused 13 0) untouched
     -- P1's sheet holds P1's job
     ∷ acceptance (sheet "TERM 0 1" "W 1") jobP1 (1 ∷ 1 ∷ []) (1 ∷ 1 ∷ 7 ∷ [])
     -- and the program writes P1's rows
     ∷ program (sheet "TERM 0 1" "W 1")
     "TOTAL LOW HIGH BOUND\n0 367879441 367879442 1\n1 183939720 183939721 2\n2 229924650 229924652 2\n3 99634015 99634016 2\n"
+    -- "A line `ZERO w` stands before `SEVERITY` in every sheet": a job with a weight at 0, and a sheet without the line
+    ∷ acceptance (ascii "LAW 1 1\nTERM 1 0\nSTART 400000001 400000002\nLAST 2\nZERO 5\nSEVERITY 1\nW 1\n") (jobOf lawOne startOne 2 5)
+    (1 ∷ []) (1 ∷ 7 ∷ 7 ∷ [])
+    ∷ program (ascii "LAW 1 1\nTERM 1 0\nSTART 400000001 400000002\nLAST 2\nZERO 5\nSEVERITY 1\nW 1\n")
+    "TOTAL LOW HIGH BOUND\n0 400000001 400000002 1\n1 400000001 400000002 1\n2 400000001 400000002 2\n"
+    ∷ program (ascii "LAW 1 1\nTERM 1 0\nSTART 400000001 400000002\nLAST 2\nSEVERITY 1\nW 1\n") "REFUSED 23 5\n"
+    ∷ refusal (ascii "LAW 1 1\nTERM 1 0\nSTART 1 1\nLAST 2\nZERO -1\nSEVERITY 1\nW 1\n") 24 5 "-1" 39 2
     -- P3 and P6 as sheets: a low below zero, a job that the curve takes, and one that it refuses
-    ∷ program (ascii "LAW 1 2\nTERM -1 0\nSTART 1 2\nLAST 1\nSEVERITY 1\nW 1\n") "TOTAL LOW HIGH BOUND\n0 1 2 1\n1 -1 0 2\n"
-    ∷ program (ascii "LAW 1 1\nTERM 0 1\nSTART 0 1000000000\nLAST 1\nSEVERITY 1\nW 1\n")
+    ∷ program (ascii "LAW 1 2\nTERM -1 0\nSTART 1 2\nLAST 1\nZERO 0\nSEVERITY 1\nW 1\n") "TOTAL LOW HIGH BOUND\n0 1 2 1\n1 -1 0 2\n"
+    ∷ program (ascii "LAW 1 1\nTERM 0 1\nSTART 0 1000000000\nLAST 1\nZERO 0\nSEVERITY 1\nW 1\n")
     "TOTAL LOW HIGH BOUND\n0 0 1000000000 1000000000\n1 0 1000000000 1000000000\n"
-    ∷ program (ascii "LAW 1 1\nTERM 0 2\nSTART 0 1000000000\nLAST 1\nSEVERITY 2\nW 1\nW 1\n") "REFUSED 10 1\n"
-    -- P11: "the sheet above with `W 10n5` as its line 6 gives 24 at line 6 with the word `10n5`"
-    ∷ refusal (sheet "TERM 0 1" "W 10n5") 24 6 "10n5" 63 4
-    ∷ program (sheet "TERM 0 1" "W 10n5") "REFUSED 24 6\n"
+    ∷ program (ascii "LAW 1 1\nTERM 0 2\nSTART 0 1000000000\nLAST 1\nZERO 0\nSEVERITY 2\nW 1\nW 1\n") "REFUSED 10 1\n"
+    -- P11: "the sheet above with `W 10n5` as its line 6 gives 24 at line 6 with the word `10n5`"; "P11's fault moves to line 7"
+    ∷ refusal (sheet "TERM 0 1" "W 10n5") 24 7 "10n5" 70 4
+    ∷ program (sheet "TERM 0 1" "W 10n5") "REFUSED 24 7\n"
     -- P12: "with `TERM -0 1` as its line 2 it gives 24 at line 2 with the word `-0`"
     ∷ refusal (sheet "TERM -0 1" "W 1") 24 2 "-0" 13 2
     -- a word whose bytes stand earlier too, and "`START 1 ` plus a line end gives 24, empty word", whose bytes stand everywhere
     ∷ refusal (ascii "LAW LAW 1\n") 24 1 "LAW" 4 3
-    ∷ refusal (sheet "TERM 0 1" "W W") 24 6 "W" 63 1
+    ∷ refusal (sheet "TERM 0 1" "W W") 24 7 "W" 70 1
     ∷ refusal (ascii "LAW 1 1\nTERM 0 1\nSTART 1 \n") 24 3 "" 25 0
     -- "`W  1` gives 23"
-    ∷ refusal (sheet "TERM 0 1" "W  1") 23 6 "" 0 0
+    ∷ refusal (sheet "TERM 0 1" "W  1") 23 7 "" 0 0
     -- "bytes after the last `W` line give 26"
-    ∷ refusal (sheet "TERM 0 1" "W 1\nW 1") 26 8 "" 0 0
+    ∷ refusal (sheet "TERM 0 1" "W 1\nW 1") 26 9 "" 0 0
     -- P9: "rows of P1, L 500000000: sure 1, possible 1"
     ∷ level lowP1 highP1 (pos 500000000) (found 1) (found 1)
     -- P10: "L 900000000: 34", and the highs, which have 881377831 together, do not reach it either
@@ -391,7 +445,7 @@ sameLent x y = sameList sameRow (rows x) (rows y)
 abbrev pub wholeNumbers : Told → List ℕ
 wholeNumbers x =
     x .answer .number ∷ x .answer .place ∷ x .job .law .order ∷ x .job .law .divisor ∷ x .job .start .low ∷ x .job .start .high
-    ∷ x .job .last ∷ x .count ∷ []
+    ∷ x .job .last ∷ x .job .zero ∷ x .count ∷ []
 
 abbrev pub terms : Told → List (List ℤ)
 terms x = x .job .law .a ∷ x .job .law .b ∷ []

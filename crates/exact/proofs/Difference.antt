@@ -17,7 +17,7 @@ use Rattle.algebra.proofs.Semiring.{ring, ring-units, zero-add, nat-zero, nat-o
 use Rattle.algebra.proofs.Ring.{int-pos, int-neg}
 use Rattle.algebra.proofs.Solver.{solve}
 use Rattle.algebra.proofs.Sum.{sum-suc, sum-zero, sum-cong, sum-add, sum-scale, sum-shift, sum-cut}
-use Rattle.algebra.proofs.Value.{order, ℚ, value, value-int, value-over}
+use Rattle.algebra.proofs.Value.{order, ℚ, value, value-int, value-over, value-over-nat}
 use Rattle.model.specs.Weights.{allWeight, divisorZero}
 use Rattle.exact.specs.Frequency.{Frequency, a, b}
 use Rattle.exact.specs.Severity.{Severity}
@@ -59,7 +59,7 @@ module _ {Q : (ℕ → A) → Type 0} (small : Negligible Q) where
 
       back : (s t : A) → nat ℚ d · s ≡ t → r · t ≡ s
       back s t e = ap (λ (v : A). r · v) (sym e) ∙ regroup r (nat ℚ d) s
-          ∙ ap (λ (v : A). v · s) (value-over (pos 1) d l ∙ int-pos (order .ring) 1 ∙ nat-one ℚ) ∙ simp ring-units
+          ∙ ap (λ (v : A). v · s) (value-over-nat 1 d l ∙ nat-one ℚ) ∙ simp ring-units
 
 module _ (law : Frequency) (one : law .order ≡ 1) (w₀ : ℕ) (table : Severity) (h : 1 ≤ lawDivisor law w₀ table) (p : Fraction) where
   abbrev G : ℕ → ℕ → A
@@ -96,7 +96,7 @@ module _ (law : Frequency) (one : law .order ≡ 1) (w₀ : ℕ) (table : Severi
       ∙ sum-cong ℚ (suc x) (λ y l. cleared D W (nat ℚ x) (nat ℚ y) (value (a law 1)) (value (b law 1)) (f w₀ table y) (G n (x - y))
       (integer (law .termA 1)) (integer (law .termB 1)) (nat ℚ (weightWithZero w₀ table y))
       (value-over (law .termA 1) (law .divisor) (law .divisor-pos)) (value-over (law .termB 1) (law .divisor) (law .divisor-pos))
-      (value-over (pos (weightWithZero w₀ table y)) (allWeight w₀ (table .weights)) (all-pos w₀ table) ∙ int-pos (order .ring) _))
+      (value-over-nat (weightWithZero w₀ table y) (allWeight w₀ (table .weights)) (all-pos w₀ table)))
       ∙ sum-shift ℚ x (λ y.
       (integer (law .termA 1) · nat ℚ x ⊹ integer (law .termB 1) · nat ℚ y) · nat ℚ (weightWithZero w₀ table y) · G n (x - y))
       ∙ ap₂ _⊹_

@@ -20,7 +20,7 @@ use Rattle.algebra.proofs.Integer.{signed, split-le, split-add, split-neg, spli
 use Rattle.algebra.proofs.Order.{rewritten, neg-mono, nat-nonneg, cancel-le}
 use Rattle.algebra.proofs.Solver.{solve}
 use Rattle.algebra.proofs.Value.{order, ℚ, value, eq-of-value, value-eq, value-le, le-of-value, value-plus, value-zero, value-one}
-use Rattle.algebra.proofs.Value.{value-over}
+use Rattle.algebra.proofs.Value.{value-over, value-over-nat}
 use Rattle.model.specs.Weights.{allWeight, thinnedDivisor}
 use Rattle.exact.specs.Frequency.{Frequency, a, b, countCoefficient}
 use Rattle.exact.specs.Severity.{Severity}
@@ -71,7 +71,7 @@ module _ (law : Frequency) (one : law .order ≡ 1) (w₀ : ℕ) (table : Severi
     where
       d : Sized order (u ⊹ neg v) (value (over (pos k) (suc n) (NL.zero-lt-suc n)))
       d = sized-over order (suc n) (NL.zero-lt-suc n) (subst (λ (w : A). Sized order (nat ℚ (suc n) · (u ⊹ neg v)) w)
-          (sym (value-over (pos k) (suc n) (NL.zero-lt-suc n) ∙ int-pos (order .ring) k)) s)
+          (sym (value-over-nat k (suc n) (NL.zero-lt-suc n))) s)
 
   come-together : (x : ℕ) → Shrinks order (λ n. difference law one w₀ table h p n x) → ComeTogether law w₀ table h p x
   unfolding difference

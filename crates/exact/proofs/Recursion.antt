@@ -3,7 +3,7 @@
 use mathlib.Core.Path.{_≡_, sym, _∙_, ap, ap₂}
 use Prim.Native.Nat.{ℕ, suc, _-_, _≤_, min, _*_}
 use native.Mathlib.Omega.{arith}
-use lib.IntN.{ℤ, pos}
+use lib.IntN.{ℤ}
 use lib.ListN.{length, List·getD-eq-default}
 use Rattle.algebra.specs.Semiring.{Semiring, nat}
 use Rattle.algebra.specs.Ring.{int}
@@ -13,7 +13,7 @@ use Rattle.algebra.proofs.Ring.{int-pos, int-add, int-mul}
 use Rattle.algebra.proofs.Sum.{sum-zero, sum-cong, sum-scale, sum-cut}
 use Rattle.algebra.specs.Fraction.{Fraction, over, overSuc, zeroTo}
 use Rattle.algebra.proofs.Value.{order, ℚ, value, eq-of-value, value-plus, value-times, value-oneTo}
-use Rattle.algebra.proofs.Value.{value-int, value-nat, value-zero, value-one, value-over, value-overSuc}
+use Rattle.algebra.proofs.Value.{value-int, value-nat, value-zero, value-one, value-over, value-over-nat, value-overSuc}
 use Rattle.model.specs.Weights.{totalWeight}
 use Rattle.exact.specs.Frequency.{Frequency, a, b, countCoefficient}
 use Rattle.exact.specs.Severity.{Severity, weight, density, convolution}
@@ -98,8 +98,7 @@ module _ (law : Frequency) (table : Severity) (p : Fraction) where
 
   over-total : (y : ℕ) → W · value (density table y) ≡ nat ℚ (weight table y)
   unfolding W density
-  over-total y = value-over (pos (weight table y)) (totalWeight (table .weights)) (table .total-pos)
-      ∙ int-pos (order .ring) (weight table y)
+  over-total y = value-over-nat (weight table y) (totalWeight (table .weights)) (table .total-pos)
 
   pub recursion-value : (x : ℕ) → nat ℚ (law .divisor * x * totalWeight (table .weights)) · E 0 x
       ≡ sum ℚ (law .order) (λ i. sum ℚ (min x (length (table .weights))) (λ y.

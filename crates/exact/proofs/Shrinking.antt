@@ -13,11 +13,10 @@ use Rattle.algebra.specs.Solver.{var, _:+_, _:*_, :-_}
 use Rattle.algebra.specs.Fraction.{Fraction, over, whole, _⊕_, _⊗_}
 use Rattle.algebra.proofs.Induction.{strong}
 use Rattle.algebra.proofs.Semiring.{ring, ring-units, mul-left-comm, nat-one, nat-add, nat-mul}
-use Rattle.algebra.proofs.Ring.{int-pos}
 use Rattle.algebra.proofs.Order.{rewritten, nat-mono, cancel-eq}
 use Rattle.algebra.proofs.Solver.{solve}
 use Rattle.algebra.proofs.Sum.{sum-zero, sum-cong}
-use Rattle.algebra.proofs.Value.{order, ℚ, value, value-plus, value-times, value-nat, value-over}
+use Rattle.algebra.proofs.Value.{order, ℚ, value, value-plus, value-times, value-nat, value-over, value-over-nat, value-upper}
 use Rattle.model.specs.Weights.{allWeight}
 use Rattle.exact.specs.Frequency.{Frequency, a, b}
 use Rattle.exact.specs.Severity.{Severity}
@@ -25,7 +24,6 @@ use Rattle.exact.specs.Thinned.{all-pos}
 use Rattle.exact.specs.Zeros.{densityWithZero, ofClaims}
 use Rattle.exact.proofs.Convolution.{convolve}
 use Rattle.exact.proofs.Recursion.{integer, cleared}
-use Rattle.exact.proofs.Thinned.{value-upper}
 use Rattle.exact.proofs.Sized.{Sized, sized-mono, sized-add, sized-mul, sized-nat, sized-int, sized-over}
 use Rattle.exact.proofs.Sized.{Shrinks, shrinks-same, shrinks-zero, shrinks-plus, shrinks-times, shrinks-next}
 use Rattle.exact.proofs.Zeros.{term, powerAll, convolveAll, factor, theorem-apart}
@@ -81,7 +79,7 @@ module _ (law : Frequency) (one : law .order ≡ 1) (w₀ : ℕ) (table : Severi
       ∙ cleared (nat ℚ (law .divisor)) (nat ℚ (allWeight w₀ (table .weights))) u v α β q 𝟙
       (integer (law .termA 1)) (integer (law .termB 1)) (nat ℚ w₀)
       (value-over (law .termA 1) (law .divisor) (law .divisor-pos)) (value-over (law .termB 1) (law .divisor) (law .divisor-pos))
-      (value-over (pos w₀) (allWeight w₀ (table .weights)) (all-pos w₀ table) ∙ int-pos (order .ring) w₀)
+      (value-over-nat w₀ (allWeight w₀ (table .weights)) (all-pos w₀ table))
       ∙ ℚ .mul-one _
 
   size : (x n : ℕ) → Sized order (T n x) (nat ℚ (natAbs (ofClaims law w₀ table p n x .upper)))
@@ -96,7 +94,7 @@ module _ (law : Frequency) (one : law .order ≡ 1) (w₀ : ℕ) (table : Severi
   ratio-whole : (n : ℕ) → nat ℚ (suc n) · ratio n ≡ (nat ℚ (suc n) · α ⊹ nat ℚ 1 · β) · q
   unfolding ratio
   ratio-whole n = sym (ℚ .mul-assoc _ _ _) ∙ ap (λ (v : A). v · ((nat ℚ (suc n) · α ⊹ nat ℚ 1 · β) · q))
-      (value-over (pos 1) (suc n) (NL.zero-lt-suc n) ∙ int-pos (order .ring) 1 ∙ nat-one ℚ) ∙ simp ring-units
+      (value-over-nat 1 (suc n) (NL.zero-lt-suc n) ∙ nat-one ℚ) ∙ simp ring-units
 
   first-next : (n : ℕ) → T (suc n) 0 ≡ ratio n · T n 0 ⊹ 𝟘
   unfolding term powerAll convolveAll convolve

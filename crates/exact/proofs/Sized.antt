@@ -45,7 +45,7 @@ module _ (O : OrderedRing) where
   pub sized-mono : {u k l : A} → Sized u k → k ⊑ l → Sized u l
   sized-mono s h = record { most = O .le-trans (s .most) h; least = O .le-trans (s .least) h }
 
-  pub sized-zero : (k : ℕ) → Sized 𝟘 (nat S k)
+  sized-zero : (k : ℕ) → Sized 𝟘 (nat S k)
   sized-zero k = record { most = nat-nonneg O k; least = rewritten O (nat-nonneg O k) (sym (neg-zero R)) refl }
 
   sized-neg : {u k : A} → Sized u k → Sized (neg u) k

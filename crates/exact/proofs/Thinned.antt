@@ -18,18 +18,18 @@ use Rattle.algebra.specs.Fraction.{Fraction, over}
 use Rattle.algebra.proofs.Semiring.{ring, nat-zero, nat-add, nat-mul}
 use Rattle.algebra.proofs.Ring.{int-pos, int-neg, int-add, int-mul}
 use Rattle.algebra.proofs.Induction.{strong}
-use Rattle.algebra.proofs.Integer.{integers, signed}
+use Rattle.algebra.proofs.Integer.{integers, signed, split-le, split-add, split-neg, split-mul}
 use Rattle.algebra.proofs.Order.{rewritten, mul-mono, nat-nonneg, cancel-eq}
 use Rattle.algebra.proofs.Solver.{solve}
 use Rattle.algebra.proofs.Sum.{sum-cong, sum-scale}
 use Rattle.algebra.proofs.Value.{order, ℚ, value, eq-of-value, value-le, le-of-value, le-of-whole, value-zero, value-nat, value-times}
-use Rattle.algebra.proofs.Value.{value-over}
+use Rattle.algebra.proofs.Value.{value-over, value-over-nat, value-upper}
 use Rattle.model.specs.Weights.{totalWeight, allWeight, divisorZero}
 use Rattle.exact.specs.Frequency.{Frequency, a, b, countCoefficient}
 use Rattle.exact.specs.Severity.{Severity, weight, density}
 use Rattle.exact.specs.Recursion.{wholeFactor}
-use Rattle.exact.specs.Thinned.{all-pos, zeroShare, oneLess, lawDivisor, thinnedLaw, ThinnedTerms, ThinnedSeverities}
-use Rattle.exact.specs.Thinned.{ThinnedRecursion, ThinnedConvolution, ThinnedWithoutZeros}
+use Rattle.exact.specs.Thinned.{all-pos, zeroShare, oneLess, lawDivisor, thinnedLaw, ThinnedDivisorLarge, ThinnedTerms}
+use Rattle.exact.specs.Thinned.{ThinnedSeverities, ThinnedRecursion, ThinnedConvolution, ThinnedWithoutZeros}
 use Rattle.exact.specs.JobAmount.{ZeroWeightSameAmounts}
 use Rattle.exact.proofs.Convolution.{power}
 use Rattle.exact.proofs.Sundt.{row, SundtClass}
@@ -81,23 +81,16 @@ open Semiring ℚ using (carrier as A, 𝟘, 𝟙, _⊹_, _·_)
 infix 4 _⊑_
 infixl 6 _⊹_
 infixl 7 _·_
--- ---- the fractions' values
--- n over d, times d
-over-nat : (n d : ℕ) (h : 1 ≤ d) → nat ℚ d · value (over (pos n) d h) ≡ nat ℚ n
-over-nat n d h = value-over (pos n) d h ∙ int-pos (order .ring) n
-
--- the numbers of a fraction
-pub value-upper : (x : Fraction) → nat ℚ (x .lower) · value x ≡ integer (x .upper)
-unfolding over
-value-upper x = value-over (x .upper) (x .lower) (x .lower-pos)
-
-value-oneLess : (x : Fraction) → value (oneLess x) ≡ 𝟙 ⊹ neg (value x)
-unfolding oneLess
-value-oneLess x = cancel-eq order (x .lower) (x .lower-pos)
-    (value-over (pos (x .lower) -ℤ x .upper) (x .lower) (x .lower-pos)
-    ∙ int-add (order .ring) (pos (x .lower)) (negℤ (x .upper))
-    ∙ ap₂ _⊹_ (int-pos (order .ring) (x .lower)) (int-neg (order .ring) (x .upper) ∙ ap neg (sym (value-upper x)))
-    ∙ solve (order .ring) (nat ℚ (x .lower) ∷ value x ∷ []) (var 0 :+ :- (var 0 :* var 1)) (var 0 :* (unit :+ :- var 1)) tt)
+-- ---- the divisor
+-- D W - A w(0) is D V and (D - A) w(0)
+pub thinned-divisor-large : ThinnedDivisorLarge
+thinned-divisor-large D A w₀ weights h = omega (
+  arith,
+  split-add (pos (D * allWeight w₀ weights)) (negℤ (A *ℤ pos w₀)),
+  split-neg (A *ℤ pos w₀),
+  split-mul A (pos w₀),
+  NL.mul-le-mul-right w₀ (split-le h),
+)
 
 int-up : (z : ℤ) → 1 ≤ up z → nat ℚ (up z) ≡ integer z
 int-up (pos n) h = sym (int-pos (order .ring) n)
@@ -111,6 +104,15 @@ law-divisor law w₀ table h =
     ∙ ap₂ _⊹_ (int-pos (order .ring) _ ∙ nat-mul ℚ (law .divisor) (allWeight w₀ (table .weights)))
     (int-neg (order .ring) (law .termA 1 *ℤ pos w₀) ∙ ap neg (int-mul (order .ring) (law .termA 1) (pos w₀)
     ∙ ap (λ (u : A). integer (law .termA 1) · u) (int-pos (order .ring) w₀)))
+
+-- ---- the terms and the severities
+value-oneLess : (x : Fraction) → value (oneLess x) ≡ 𝟙 ⊹ neg (value x)
+unfolding oneLess
+value-oneLess x = cancel-eq order (x .lower) (x .lower-pos)
+    (value-over (pos (x .lower) -ℤ x .upper) (x .lower) (x .lower-pos)
+    ∙ int-add (order .ring) (pos (x .lower)) (negℤ (x .upper))
+    ∙ ap₂ _⊹_ (int-pos (order .ring) (x .lower)) (int-neg (order .ring) (x .upper) ∙ ap neg (sym (value-upper x)))
+    ∙ solve (order .ring) (nat ℚ (x .lower) ∷ value x ∷ []) (var 0 :+ :- (var 0 :* var 1)) (var 0 :* (unit :+ :- var 1)) tt)
 
 ruleset fractions = (value-times, value-oneLess)
 
@@ -127,7 +129,7 @@ module _ (w₀ : ℕ) (table : Severity) where
 
   share : W · value (zeroShare w₀ table) ≡ nat ℚ w₀
   unfolding W zeroShare
-  share = over-nat w₀ (allWeight w₀ (table .weights)) (all-pos w₀ table)
+  share = value-over-nat w₀ (allWeight w₀ (table .weights)) (all-pos w₀ table)
 
   module _ (law : Frequency) (h : 1 ≤ lawDivisor law w₀ table) where
     D : A
@@ -203,8 +205,8 @@ unfolding W V₁ density
 thinned-severities w₀ table y = eq-of-value (simp fractions
     (cancel-eq order (totalWeight (table .weights) * allWeight w₀ (table .weights)) (NL.mul-pos (table .total-pos) (all-pos w₀ table))
     (rw nat-mul (thinned-density (order .ring) (V₁ w₀ table) (W w₀ table) (nat ℚ w₀) _ _ _ (nat ℚ (weight table y))
-    (over-nat (weight table y) (totalWeight (table .weights)) (table .total-pos)) (share w₀ table)
-    (over-nat (weight table y) (allWeight w₀ (table .weights)) (all-pos w₀ table)) (total w₀ table)))))
+    (value-over-nat (weight table y) (totalWeight (table .weights)) (table .total-pos)) (share w₀ table)
+    (value-over-nat (weight table y) (allWeight w₀ (table .weights)) (all-pos w₀ table)) (total w₀ table)))))
 
 -- ---- the recursion
 module _ (law : Frequency) (w₀ : ℕ) (table : Severity) (h : 1 ≤ lawDivisor law w₀ table) where

@@ -12,7 +12,7 @@ use Rattle.exact.proofs.Convolution.{convolve, power, weighed, weighed-
 use Rattle.exact.proofs.Convolution.{convolve-scale, convolve-swap, convolve-mixed, one-more}
 
 module _ (R : Semiring) where
-  open Semiring R using (carrier as A, 𝟘, 𝟙, _⊹_, _·_)
+  open Semiring R using (carrier as A, _⊹_, _·_)
 
   infixl 6 _⊹_
   infixl 7 _·_

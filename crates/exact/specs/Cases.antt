@@ -10,6 +10,7 @@ use Rattle.model.specs.Job.{lawOf}
 use Rattle.exact.specs.Frequency.{Frequency}
 use Rattle.exact.specs.Severity.{Severity}
 use Rattle.exact.specs.Amount.{exactAmount}
+use Rattle.exact.specs.Thinned.{thinnedLaw}
 use Rattle.exact.specs.JobAmount.{frequency, severity}
 
 pub record Case : Type 0 where
@@ -65,7 +66,7 @@ gap = severity (2 ∷ 0 ∷ 1 ∷ []) (lit≤ tt)
 abbrev pub four : Severity
 four = severity (3 ∷ 1 ∷ 4 ∷ 1 ∷ []) (lit≤ tt)
 
--- ---- the table of cases
+-- ---- the table of cases; in the last three rows one claim in three is of size 0
 abbrev row : Frequency → Severity → Fraction → ℕ → Fraction → Case
 row law table start total amount = record { law = law; table = table; start = start; total = total; amount = amount }
 
@@ -85,6 +86,9 @@ cases =
     ∷ row together gap (over (pos 1) 2 (lit≤ tt)) 5 (over (pos 61) 81 (lit≤ tt))
     ∷ row paired single (whole (pos 400000001)) 2 (over (pos 400000001) 2 (lit≤ tt))
     ∷ row paired four (whole (pos 1)) 5 (over (pos 43) 486 (lit≤ tt))
+    ∷ row (thinnedLaw poisson 1 two (lit≤ tt)) two (whole (pos 1)) 3 (over (pos 13) 48 (lit≤ tt))
+    ∷ row (thinnedLaw binomial 1 two (lit≤ tt)) two (whole (pos 1)) 2 (over (pos 34) 49 (lit≤ tt))
+    ∷ row (thinnedLaw negativeBinomial 1 two (lit≤ tt)) two (whole (pos 1)) 2 (over (pos 19) 64 (lit≤ tt))
     ∷ []
 
 -- the one claim

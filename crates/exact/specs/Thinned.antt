@@ -1,9 +1,11 @@
 -- Claims that close at nothing: a weight w(0) beside the table's row, counted in W, and the law of the claims that are not zero. V is the
 -- sum of the row, the weights of the sizes from 1 on.
 use mathlib.Core.Path.{_≡_}
-use Prim.Native.Nat.{ℕ, suc, _-_, _≤_, min}
+use mathlib.Core.List.{List}
+use Prim.Native.Nat.{ℕ, suc, _-_, _*_, _≤_, min}
 use native.Mathlib.Nat as NL
-use lib.IntN.{pos, _-ℤ_, _*ℤ_}
+use lib.IntN.{ℤ, pos, _-ℤ_, _*ℤ_}
+use lib.Signed.{_≤ℤ_}
 use lib.ListN.{length}
 use Rattle.algebra.specs.Fraction.{Fraction, over, whole, _⊗_, oneTo, _≈_, _≼_}
 use Rattle.model.specs.Weights.{totalWeight, allWeight, thinnedDivisor, divisorZero}
@@ -41,7 +43,13 @@ module _ (law : Frequency) (w₀ : ℕ) (table : Severity) where
     termB = λ i. law .termB i *ℤ pos (totalWeight (table .weights));
   }
 
--- in the paper's words: 1 - aq is above zero, and each term times it is the term before times 1 - q
+-- where A is at most D, as for Poisson, binomial and negative binomial laws, that is at least D times V: no weight of size 0 makes the
+-- divisor smaller, and 12 refuses no such law where V is not 0
+abbrev pub ThinnedDivisorLarge : Type 0
+ThinnedDivisorLarge = (D : ℕ) (A : ℤ) (w₀ : ℕ) (weights : List ℕ) → A ≤ℤ pos D
+    → D * totalWeight weights ≤ thinnedDivisor D A w₀ (allWeight w₀ weights)
+
+-- in the paper's words: 1 - aq is above zero, and each term of the thinned law times it is the given law's term times 1 - q
 abbrev pub ThinnedTerms : Type 0
 ThinnedTerms = (law : Frequency) (w₀ : ℕ) (table : Severity) (h : 1 ≤ lawDivisor law w₀ table)
     → let remaining = oneLess (a law 1 ⊗ zeroShare w₀ table) in
@@ -63,7 +71,8 @@ ThinnedRecursion = (law : Frequency) (w₀ : ℕ) (table : Severity) (h : 1 ≤ 
     ≈ oneTo (law .order) (λ i. oneTo (min x (length (table .weights))) (λ y.
     whole (wholeFactor law table x i y) ⊗ exactRow (thinnedLaw law w₀ table h) table p (i - 1) (x - y)))
 
--- a row j ≥ 1, which only a law of a higher order has, where w(0) is 0: its divisor W is then the sum of the other weights
+-- a weight at 0 is "for laws of order 1 only": for a row j ≥ 1, which only a law of a higher order has, w(0) is 0, and its divisor W is
+-- the sum of the other weights
 abbrev pub ThinnedConvolution : Type 0
 ThinnedConvolution = (law : Frequency) (w₀ : ℕ) (table : Severity) (h : 1 ≤ lawDivisor law w₀ table) (p : Fraction) (j x : ℕ) → w₀ ≡ 0
     → whole (pos (allWeight w₀ (table .weights))) ⊗ exactRow (thinnedLaw law w₀ table h) table p (suc j) x

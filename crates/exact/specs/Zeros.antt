@@ -49,7 +49,7 @@ CutRecursion = (law : Frequency) → law .order ≡ 1 → (w₀ : ℕ) (table : 
     ≈ zeroTo x (λ y. (whole (pos x) ⊗ a law 1 ⊕ whole (pos y) ⊗ b law 1) ⊗ densityWithZero w₀ table y
     ⊗ upToClaims law w₀ table p n (x - y))
 
--- ---- so the amounts are those of the thinned law, from the chance that the total is zero
+-- ---- "a start is now the chance that the total is zero": from it the thinned law gives the amounts
 abbrev pub thinnedAmount : (law : Frequency) (w₀ : ℕ) (table : Severity) → 1 ≤ lawDivisor law w₀ table → Fraction → ℕ → Fraction
 thinnedAmount law w₀ table h p x = exactAmount (thinnedLaw law w₀ table h) table p x
 

@@ -122,8 +122,15 @@ abbrev conditionOf : List Condition → ℕ → Condition
 conditionOf [] number = none
 conditionOf (c ∷ cs) number = cond (eqb (c .number) number) c (conditionOf cs number)
 
-abbrev NoneHolds : List Condition → Type 0
+abbrev pub NoneHolds : List Condition → Type 0
 NoneHolds cs = (number : ℕ) → conditionOf cs number .holds ≡ false
+
+none-more : (c : Condition) (cs : List Condition) → c .holds ≡ false → NoneHolds cs → NoneHolds (c ∷ cs)
+none-more c cs fails rest number = either (eqb (c .number) number) (conditionOf cs number) (rest number)
+  where
+    either : (b : Bool) (d : Condition) → d .holds ≡ false → cond b c d .holds ≡ false
+    either true d later = fails
+    either false d later = later
 
 -- two lists, one after the other, and an answer whose number the first lacks: it has no condition that holds, and the answer is that of
 -- the second. So it is with an acceptance.
@@ -137,11 +144,18 @@ none-holds (c ∷ cs) ds {answer} t e =
     by : (b : Bool) → c .holds ≡ b → cond b (refused (c .number) (c .place)) (firstOf (cs ++ ds)) ≡ answer
         → (firstOf (cs ++ ds) ≡ answer → NoneHolds cs × (firstOf ds ≡ answer)) → NoneHolds (c ∷ cs) × (firstOf ds ≡ answer)
     by true h e rest = absurd (other-number (answer .number) c cs t (ap (λ (a : Answer). a .number) e))
-    by false h e rest = (λ number. either (eqb (c .number) number) (conditionOf cs number) (rest e .0 number), rest e .1)
-      where
-        either : (b : Bool) (d : Condition) → d .holds ≡ false → cond b c d .holds ≡ false
-        either true d later = h
-        either false d later = later
+    by false h e rest = (none-more c cs h (rest e .0), rest e .1)
+
+-- lists that come to the same answer where no condition before them holds do so after these
+pub first-same : (cs ds es : List Condition) → (NoneHolds cs → firstOf ds ≡ firstOf es) → firstOf (cs ++ ds) ≡ firstOf (cs ++ es)
+unfolding firstOf
+first-same [] ds es same = same (λ number. refl)
+first-same (c ∷ cs) ds es same = by (c .holds) refl (λ fails. first-same cs ds es (λ none. same (none-more c cs fails none)))
+  where
+    by : (b : Bool) → c .holds ≡ b → (c .holds ≡ false → firstOf (cs ++ ds) ≡ firstOf (cs ++ es))
+        → cond b (refused (c .number) (c .place)) (firstOf (cs ++ ds)) ≡ cond b (refused (c .number) (c .place)) (firstOf (cs ++ es))
+    by true h rest = refl
+    by false h rest = rest h
 
 -- where both together refuse nothing, the first does not
 pub first-passed : (cs ds : List Condition) → T (allNumbered cs) → firstOf (cs ++ ds) ≡ accepted → isAccepted (firstOf cs) ≡ true

@@ -1,8 +1,9 @@
--- The size of D W - A w(0), where each of its numbers is at most 1,000 in size: by those of the two products.
+-- D W - A w(0): its size where each of its numbers is at most 1,000 in size, by those of the two products; and that it is D W without zeros.
+use mathlib.Core.Path.{_≡_, ap, _∙_}
 use Prim.Native.Nat.{ℕ, _*_, _≤_}
 use native.Mathlib.Nat as NL
 use native.Mathlib.Omega.{arith}
-use lib.IntN.{ℤ, pos, natAbs, _-ℤ_, _*ℤ_}
+use lib.IntN.{ℤ, pos, natAbs, _-ℤ_, _*ℤ_, *ℤ-zero}
 use Rattle.algebra.specs.Parts.{up}
 use Rattle.algebra.proofs.Integer.{split-size}
 use Rattle.algebra.proofs.Size.{size-sub, size-mul-le}
@@ -15,3 +16,6 @@ module _ (D : ℕ) (A : ℤ) (w₀ W : ℕ) (d : D ≤ 1000) (a : natAbs A ≤ 1
 
   pub thinned-most : thinnedDivisor D A w₀ W ≤ 2000000
   thinned-most = omega (arith, thinned-size, split-size (pos (D * W) -ℤ A *ℤ pos w₀))
+
+pub thinned-none : (D : ℕ) (A : ℤ) (W : ℕ) → thinnedDivisor D A 0 W ≡ D * W
+thinned-none D A W = ap (λ (z : ℤ). up (pos (D * W) -ℤ z)) (*ℤ-zero A) ∙ NL.add-zero (D * W)

@@ -105,11 +105,11 @@ module _ (s : List ℕ) (table : TrueTable s) where
       (sym (line .printed) ∙ shown-printed s its-table x l))
 
 pub printed-same-bounds : PrintedSameBounds
-printed-same-bounds s s′ table table′ same-law same-weights same-gap x l l′ =
+printed-same-bounds s s′ table table′ same-law same-zero same-weights same-gap x l l′ =
     let job = table .sheet .job in
     let job′ = table′ .sheet .job in
     let accepts′ = subst (λ ws. Accepted job′ ws programRows) (sym same-weights) (table′ .accepts) in
     bound-shown s table x l
-    ∙ same-bounds job job′ (table .sheet .weights) programRows programRows (table .accepts) accepts′ same-law same-gap x l l′
+    ∙ same-bounds job job′ (table .sheet .weights) programRows programRows (table .accepts) accepts′ same-law same-zero same-gap x l l′
     ∙ ap (λ (ws : List ℕ). shown job′ ws programRows x .bound) same-weights
     ∙ sym (bound-shown s′ table′ x l′)

@@ -53,10 +53,11 @@ abbrev pub EveryAcceptedPrinted : Type 0
 EveryAcceptedPrinted = (sheet : Sheet) → Writable sheet → Accepted (sheet .job) (sheet .weights) programRows
     → (table : TrueTable (sheetText sheet)) × (table .sheet ≡ sheet)
 
--- two tables of sheets alike in law, weights and gap print the same bound for each total that both reach
+-- two tables of sheets alike in law, weights, that of severity 0 among them, and gap print the same bound for each total that both reach
 abbrev pub PrintedSameBounds : Type 0
 PrintedSameBounds = (s s′ : List ℕ) (table : TrueTable s) (table′ : TrueTable s′)
-    → table .sheet .job .law ≡ table′ .sheet .job .law → table .sheet .weights ≡ table′ .sheet .weights
+    → table .sheet .job .law ≡ table′ .sheet .job .law
+    → table .sheet .job .zero ≡ table′ .sheet .job .zero → table .sheet .weights ≡ table′ .sheet .weights
     → gap (table .sheet .job .start) ≡ gap (table′ .sheet .job .start)
     → (x : ℕ) (l : x ≤ table .sheet .job .last) (l′ : x ≤ table′ .sheet .job .last)
     → table .lines x l .bound ≡ table′ .lines x l′ .bound

@@ -51,6 +51,9 @@ answers job weights P acceptance refusal =
     by-first P _ 4 _ _ (λ _. refusal 3 _ (λ e. omega arith)) λ _.
     by-first P _ 5 _ _ (λ _. refusal 4 _ (λ e. omega arith)) λ _.
     by-first P _ 6 _ _ (λ _. refusal 5 _ (λ e. omega arith)) λ _.
+    by-first P _ 11 _ _ (λ _. refusal 10 _ (λ e. omega arith)) λ _.
+    by-first P _ 12 _ _ (λ _. refusal 11 _ (λ e. omega arith)) λ _.
+    by-first P _ 13 _ _ (λ _. refusal 12 _ (λ e. omega arith)) λ _.
     by-first P _ 7 _ _ (λ _. refusal 6 _ (λ e. omega arith)) λ last.
     by-first P (tooShort (job .last + 1) programRows) 8 _ _ (λ t. absurd (false≢true (
     sym (long-enough (job .last + 1) mostTotals (omega (arith, ltb-false mostLast (job .last) last))) ∙ t
