@@ -23,8 +23,8 @@ extern "C" {
 #endif
 
 /* The version of this header, as a number, major * 10,000 + minor * 100 + patch, and as text. */
-#define CLAIMTOTALS_VERSION 600
-#define CLAIMTOTALS_VERSION_TEXT "0.6.0"
+#define CLAIMTOTALS_VERSION 700
+#define CLAIMTOTALS_VERSION_TEXT "0.7.0"
 
 #define CLAIMTOTALS_UNIT INT64_C(1000000000)
 
@@ -36,7 +36,9 @@ extern "C" {
 /* The two arrays of a list of layers have so many places; rows of as many are always long enough for their costs. */
 #define CLAIMTOTALS_LAYERS 64
 
-/* The start of a Poisson law, from its mean: U times e to the -r/s lies from low to high.
+/* The start of a Poisson law, from its mean: U times e to the -r/s lies from low to high. For a table whose weight of size 0 is 0 this is
+   the start of the law itself, as the total is zero where there are no claims. With claims of size 0, whose share of all claims is
+   q = w(0)/W, it is the start of the mean times (1 - q): hand over that mean.
 
    upper, lower  r and s: the mean is r/s
    low, high     the start: what claimtotals_curve takes as start_low and start_high
@@ -48,7 +50,9 @@ extern "C" {
    gets. */
 uint64_t claimtotals_start_mean(uint64_t upper, uint64_t lower, uint64_t *low, uint64_t *high);
 
-/* The start of a binomial law, or of a negative binomial law of whole shape: U times (1 - r/s)^N lies from low to high.
+/* The start of a binomial law, or of a negative binomial law of whole shape: U times (1 - r/s)^N lies from low to high. It is the start of
+   the law for a table whose weight of size 0 is 0. With claims of size 0 hand over the changed chance, which README.md tells in its section
+   "Claims that close at nothing".
 
    upper, lower  r and s. For a binomial law r/s is the chance of a claim in one trial. For a negative binomial law it is the q with which
                  the chance of no claims is (1-q)^N; Panjer and Willmot call it p, where other texts write p for 1-q
@@ -108,8 +112,10 @@ uint64_t claimtotals_law_hesselager(int64_t b_0, int64_t b_1, int64_t a_0, int64
    divisor       D, the divisor of its terms
    a, b          A_1..A_4 and B_1..B_4; those past k are 0
    start_low     s, and
-   start_high    t: U times the chance of no claims lies from s to t
+   start_high    t: U times the chance that the total is zero lies from s to t; where zero is 0 that is the chance of no claims
    last          X, the last total
+   zero          w(0), the weight of size 0, of the claims that close at nothing; 0 where the table has none. W is w(0) + w(1) + .. + w(m),
+                 and a claim has size y by chance w(y)/W, size 0 too
    weights       w(1)..w(m), the weights of the claim sizes 1 to m, and their number m; only read
    low, high,
    bound         rows for the answer, X+1 places or more
@@ -122,7 +128,10 @@ uint64_t claimtotals_law_hesselager(int64_t b_0, int64_t b_1, int64_t a_0, int64
    3    a term is not from -1,000 to 1,000, or is past k and not 0; the place is the smallest such i, from 1
    4    the start is not 0 <= s <= t <= U with t >= 1, where U is 1,000,000,000
    5    the number m of weights is not 1 to 500
-   6    the weights' sum is not 1 to 1,000
+   6    the sum W of the weights, with that of size 0, is not 1 to 1,000
+   11   the weight of size 0 is not 0, and the order k of the law is above 1
+   12   D W - A w(0), the divisor of the terms once claims of size 0 are left out, is zero or less
+   13   the weights of the sizes from 1 on are all 0
    7    the last total X is above 500
    8    a row has fewer than X+1 places, or the work row fewer than 9(X+1)
    9    a low or a high would lie outside -2U to 2U, where U is 1,000,000,000, in the curve or in one of the further rows that an order
@@ -133,9 +142,9 @@ uint64_t claimtotals_law_hesselager(int64_t b_0, int64_t b_1, int64_t a_0, int64
    After 9 and 10 the first X+1 places of the three rows are 0. After 0, 9 and 10 the first 9(X+1) places of the work row are 0. Later
    places keep what they held. */
 uint64_t claimtotals_curve(uint64_t order, uint64_t divisor, const int64_t a[4], const int64_t b[4], uint64_t start_low,
-                           uint64_t start_high, uint64_t last, const uint64_t *weights, size_t weights_length, int64_t *low,
-                           size_t low_length, int64_t *high, size_t high_length, int64_t *bound, size_t bound_length, int64_t *work,
-                           size_t work_length, size_t *place);
+                           uint64_t start_high, uint64_t last, uint64_t zero, const uint64_t *weights, size_t weights_length,
+                           int64_t *low, size_t low_length, int64_t *high, size_t high_length, int64_t *bound, size_t bound_length,
+                           int64_t *work, size_t work_length, size_t *place);
 
 /* The numbers of a sheet.
 
@@ -144,6 +153,7 @@ uint64_t claimtotals_curve(uint64_t order, uint64_t divisor, const int64_t a[4],
    line          the number of the line of a refusal, from 1; 0 with 21 and after an acceptance
    order, divisor, a, b, start_low, start_high, last
                  the job, as claimtotals_curve takes it; a and b have 4 places, those past k get 0
+   zero          w(0), the number of the line ZERO, as claimtotals_curve takes it too
    count         m, the number of weights
 
    0    accepted: the first m places of the row hold the weights, and later places keep what they held
@@ -157,11 +167,12 @@ uint64_t claimtotals_curve(uint64_t order, uint64_t divisor, const int64_t a[4],
    and after the last line:
    26   bytes follow the last weight; the line is where they begin
 
-   After a refusal the row holds what it held, and the numbers of the job and the count are 0; claimtotals_faulty_word tells the word of 24.
-   Numbers in good form that are no good for the curve are accepted here and refused there. */
+   After a refusal the row holds what it held, and the numbers of the job, zero among them, and the count are 0; claimtotals_faulty_word
+   tells the word of 24. Numbers in good form that are no good for the curve are accepted here and refused there. A sheet from before 0.7.0,
+   which has no line ZERO, is refused by 23 at the line SEVERITY: README.md, "Older sheets", says how to mend it. */
 uint64_t claimtotals_read_sheet(const uint8_t *sheet, size_t sheet_length, uint64_t *row, size_t row_length, size_t *line, uint64_t *order,
                                 uint64_t *divisor, int64_t a[4], int64_t b[4], uint64_t *start_low, uint64_t *start_high, uint64_t *last,
-                                size_t *count);
+                                uint64_t *zero, size_t *count);
 
 /* The word that refusal 24 is about, as a part of the sheet.
 

@@ -261,7 +261,7 @@ def check_library_build(room):
     """`library/build` shows a fault too, and leaves no old library."""
     copy = Copy(room, "library")
     copy.run("library/build")
-    if copy.library_files() != ["claimtotals.h", "libclaimtotals.a", "libclaimtotals.so", "libclaimtotals.so.0.6"]:
+    if copy.library_files() != ["claimtotals.h", "libclaimtotals.a", "libclaimtotals.so", "libclaimtotals.so.0.7"]:
         raise Fault(f"it left {copy.library_files()}")
     hold_to_failure(copy.run("library/build", FAILS="model"), "error[unknown-name]", most=5)
     hold_to_no_library(copy)

@@ -167,11 +167,12 @@ def shown(word):
 
 
 def seen_there(number, sheet):
-    """A pattern for what the sentence says of this sheet: the faulty word, or the sum of the weights."""
+    """A pattern for what the sentence says of this sheet: the faulty word, or the sum of the weights with that of size 0."""
     if number == 24:
         return re.escape(f"; the word is {shown(read_sheet(sheet, MOST_WEIGHTS).word)}")
     if number == 6:
-        total = sum(read_sheet(sheet, MOST_WEIGHTS).job.weights)
+        job = read_sheet(sheet, MOST_WEIGHTS).job
+        total = job.zero + sum(job.weights)
         return rf"; [^.]*\b(?:{total}|{total:,})\b[^.]*"
     return ""
 
@@ -197,7 +198,14 @@ def sums_line(command, file, sheet, rest="make LAST larger to see them"):
         return ""
     head = f"{command}: {file}: the chances of this table add up to between {decimal(low)} and {decimal(high)}, "
     named = ["START", "law"] if low > UNIT else [rest, "START", "law"]
-    return re.escape(head) + "".join(f"(?=.*{word})" for word in named) + r".+\.\n"
+    return re.escape(head) + "".join(f"(?=.*{word})" for word in named) + about_start(sheet) + r".+\.\n"
+
+
+def about_start(sheet):
+    """A pattern for what such a line says of START: with a weight at ZERO, and only then, that it is not the chance of no claims."""
+    zero = read_sheet(sheet, MOST_WEIGHTS).job.zero
+    said = rf".* With a weight at ZERO, {zero} here, START is the chance that the total is zero, and not that of no claims: "
+    return f"(?={said})" if zero else "(?!.*(?:ZERO|no claims))"
 
 
 def excess_line(command, file, sheet):
@@ -211,12 +219,12 @@ def text(*lines):
     return "".join(f"{line}\n" for line in lines).encode()
 
 
-SMALL = ["LAW 1 1", "TERM 0 1", "START 367879441 367879442", "LAST 3", "SEVERITY 2", "W 1", "W 1"]
-# The chances of the first add up to 1; line 8 of the second is refused by 24.
+SMALL = ["LAW 1 1", "TERM 0 1", "START 367879441 367879442", "LAST 3", "ZERO 0", "SEVERITY 2", "W 1", "W 1"]
+# The chances of the first add up to 1; line 9 of the second is refused by 24.
 COIN_TOSS, SLIP = ((ROOT / "examples" / name).read_bytes() for name in ("coin_toss.txt", "refused.txt"))
 # a table with long lines, of 17,946 bytes in all; and a sheet with the most weights and totals
-WIDE = text("LAW 1 1", "TERM -1 0", f"START 600000000 {UNIT}", f"LAST {LAST_TOTAL}", "SEVERITY 1", "W 1")
-LONG = text(*SMALL[:3], f"LAST {LAST_TOTAL}", f"SEVERITY {MOST_WEIGHTS}", *["W 2"] * MOST_WEIGHTS)
+WIDE = text("LAW 1 1", "TERM -1 0", f"START 600000000 {UNIT}", f"LAST {LAST_TOTAL}", "ZERO 0", "SEVERITY 1", "W 1")
+LONG = text(*SMALL[:3], f"LAST {LAST_TOTAL}", "ZERO 0", f"SEVERITY {MOST_WEIGHTS}", *["W 2"] * MOST_WEIGHTS)
 
 
 # ---- commands that take a sheet

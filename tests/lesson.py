@@ -22,20 +22,25 @@ from start import WHOLE, start_of_mean, start_of_trials
 OPERATORS = {ast.Add: operator.add, ast.Sub: operator.sub, ast.Mult: operator.mul, ast.Div: operator.truediv, ast.Pow: operator.pow}
 
 
+# What stands between other lines of a sheet where the lesson names them.
+AND = "` and `"
+
+
 def sheet(name, other=None):
-    """The bytes of a sheet, or of the same sheet with another line for the last one with its keyword, as `LAST 18`."""
+    """The bytes of a sheet, or of the same sheet with another line for the last one with its keyword, as `LAST 18`, or with several."""
     read = (ROOT / FOLDER / name).read_bytes()
-    if other is None:
-        return read
-    line = f"{replaced(name, other)}\n".encode()
-    if read.count(line) != 1:
-        raise ValueError(f"{name} has {read.count(line)} lines for {other}")
-    return read.replace(line, f"{other}\n".encode())
+    for there, line in changes(name, other) if other else []:
+        before, after = f"{there}\n".encode(), f"{line}\n".encode()
+        if read.count(before) != 1:
+            raise ValueError(f"{name} has {read.count(before)} lines for {line}")
+        read = read.replace(before, after)
+    return read
 
 
-def replaced(name, other):
-    """The line that another stands for."""
-    return [line for line in sheet(name).decode().splitlines() if line.split()[0] == other.split()[0]][-1]
+def changes(name, other):
+    """The lines that others stand for, each with the other."""
+    found = sheet(name).decode().splitlines()
+    return [([line for line in found if line.split()[0] == new.split()[0]][-1], new) for new in other.split(AND)]
 
 
 def job(name, other=None):

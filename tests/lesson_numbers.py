@@ -287,7 +287,8 @@ def tosses_table():
     yield (f"The divisor is {divisors[0]}. A whole number divided by {divisors[0]} stays as it is: nothing can be rounded, so nothing is "
            f"added to the bound.")
     yield where(nothing_added(4) == [(1, 1, 1)],
-                "In the table this can be so at total 1 alone, and only where D and W are both 1, as the divisor is D × x × W.")
+                "In the table this can be so at total 1 alone, and where ZERO is 0 only if D and W are both 1, as the divisor is D × x × "
+                "W then.")
     yield f"The divisor is {divisors[1]}, so low and high may have to be rounded."
     no_rest = all(tried[1][1:3] == (2 * low, 2 * high) and tried[2][1:3] == (low, high)
                   for gap in (0, 1) for (low, high), tried in from_starts("two_tosses.txt", gap))

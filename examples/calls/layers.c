@@ -20,7 +20,7 @@ enum { MOST_BYTES = 16384 + 1 };
 
 /* The job, as the sheet reader hands it over and the curve call takes it. */
 struct job {
-    uint64_t order, divisor, start_low, start_high, last;
+    uint64_t order, divisor, start_low, start_high, last, zero;
     int64_t a[4], b[4];
     uint64_t weights[CLAIMTOTALS_WEIGHTS];
     size_t count;
@@ -85,7 +85,7 @@ static size_t read_file(const char *path, uint8_t bytes[MOST_BYTES]) {
 static int read_job(const uint8_t *sheet, size_t length, struct job *job) {
     size_t line;
     uint64_t number = claimtotals_read_sheet(sheet, length, job->weights, CLAIMTOTALS_WEIGHTS, &line, &job->order, &job->divisor, job->a,
-                                             job->b, &job->start_low, &job->start_high, &job->last, &job->count);
+                                             job->b, &job->start_low, &job->start_high, &job->last, &job->zero, &job->count);
     if (number != 0) fprintf(stderr, "refused by %" PRIu64 " at line %zu\n", number, line);
     return number == 0;
 }
@@ -93,9 +93,9 @@ static int read_job(const uint8_t *sheet, size_t length, struct job *job) {
 static int find_curve(const struct job *job, struct rows *rows) {
     size_t place;
     uint64_t number =
-        claimtotals_curve(job->order, job->divisor, job->a, job->b, job->start_low, job->start_high, job->last, job->weights, job->count,
-                          rows->low, CLAIMTOTALS_TOTALS, rows->high, CLAIMTOTALS_TOTALS, rows->bound, CLAIMTOTALS_TOTALS, rows->work,
-                          CLAIMTOTALS_WORK, &place);
+        claimtotals_curve(job->order, job->divisor, job->a, job->b, job->start_low, job->start_high, job->last, job->zero, job->weights,
+                          job->count, rows->low, CLAIMTOTALS_TOTALS, rows->high, CLAIMTOTALS_TOTALS, rows->bound, CLAIMTOTALS_TOTALS,
+                          rows->work, CLAIMTOTALS_WORK, &place);
     if (number != 0) fprintf(stderr, "refused by %" PRIu64 " at place %zu\n", number, place);
     return number == 0;
 }

@@ -23,7 +23,7 @@ enum { MOST_BYTES = 16384 + 1 };
 
 /* The job, as the sheet reader hands it over and the curve call takes it. */
 struct job {
-    uint64_t order, divisor, start_low, start_high, last;
+    uint64_t order, divisor, start_low, start_high, last, zero;
     int64_t a[4], b[4];
     uint64_t weights[CLAIMTOTALS_WEIGHTS];
     size_t count;
@@ -61,7 +61,7 @@ static void print_word(const uint8_t *word, size_t length) {
 static int read_job(const uint8_t *sheet, size_t length, struct job *job) {
     size_t line;
     uint64_t number = claimtotals_read_sheet(sheet, length, job->weights, CLAIMTOTALS_WEIGHTS, &line, &job->order, &job->divisor, job->a,
-                                             job->b, &job->start_low, &job->start_high, &job->last, &job->count);
+                                             job->b, &job->start_low, &job->start_high, &job->last, &job->zero, &job->count);
     if (number == 0) return 0;
     fprintf(stderr, "refused by %" PRIu64 " at line %zu", number, line);
     if (number == 24) {
@@ -77,9 +77,9 @@ static int read_job(const uint8_t *sheet, size_t length, struct job *job) {
 static int find_curve(const struct job *job, struct rows *rows) {
     size_t place;
     uint64_t number =
-        claimtotals_curve(job->order, job->divisor, job->a, job->b, job->start_low, job->start_high, job->last, job->weights, job->count,
-                          rows->low, CLAIMTOTALS_TOTALS, rows->high, CLAIMTOTALS_TOTALS, rows->bound, CLAIMTOTALS_TOTALS, rows->work,
-                          CLAIMTOTALS_WORK, &place);
+        claimtotals_curve(job->order, job->divisor, job->a, job->b, job->start_low, job->start_high, job->last, job->zero, job->weights,
+                          job->count, rows->low, CLAIMTOTALS_TOTALS, rows->high, CLAIMTOTALS_TOTALS, rows->bound, CLAIMTOTALS_TOTALS,
+                          rows->work, CLAIMTOTALS_WORK, &place);
     if (number == 0) return 0;
     fprintf(stderr, "refused by %" PRIu64 " at place %zu\n", number, place);
     return 1;

@@ -17,11 +17,14 @@ A sheet is plain text. This one has a Poisson law with mean 1 and claims of size
     TERM 0 1
     START 367879441 367879442
     LAST 3
+    ZERO 0
     SEVERITY 2
     W 1
     W 1
 
 `start_of_mean(1)` gives the start of this law, and `start_of_trials` that of a binomial law or of a negative binomial law of whole shape.
+The start is the chance that the total is zero. Where claims close at nothing, ZERO has their weight, and these calls take a changed mean or
+chance, which README.md tells.
 `law_panjer_willmot` and `law_hesselager` give the divisor and the terms of a law, from the numbers of a publication's line.
 
 Chances are in units of one billionth, what a layer costs is in billionths of a money unit. Every number comes from a call of the proved

@@ -18,7 +18,7 @@ def about_excess(low: Sequence[int], high: Sequence[int]) -> Optional[str]:
     """Where the lines of a table add up to more than 1, between which numbers they do, and what to look at."""
     if sum(low) <= UNIT + SLACK:
         return None
-    return f"{sums(low, high)}, more than 1. Look at START, the chance of no claims in billionths, and at the law."
+    return f"{sums(low, high)}, more than 1. Look at START, the chance that the total is zero in billionths, and at the law."
 
 
 def about_rest(low: Sequence[int], high: Sequence[int], rest: str) -> Optional[str]:
@@ -37,3 +37,11 @@ def about_layers(low: Sequence[int], high: Sequence[int]) -> Optional[str]:
     """What is said of a table whose layers are priced: a slip in START would not show in their prices."""
     return about_rest(low, high, "The rest counts as totals above the last, which pay every layer whole: make LAST larger to see whether"
                       " they are there")
+
+
+def about_start(zero: int) -> str:
+    """What is said behind such a sentence where a sheet has this weight at ZERO, and its start may be one that was made without it."""
+    if not zero:
+        return ""
+    return (f" With a weight at ZERO, {zero} here, START is the chance that the total is zero, and not that of no claims: claimtotals start"
+            " --help says how to get it.")

@@ -6,33 +6,39 @@ import re
 from typing import Callable, NamedTuple, Optional, Sequence, Union
 
 from claimtotals import layout, library, streams
-from claimtotals.advice import about_excess, about_layers, about_sums
+from claimtotals.advice import about_excess, about_layers, about_start, about_sums
 from claimtotals.costs import LayerCost
 from claimtotals.curves import Curve
 from claimtotals.laws import law_hesselager, law_panjer_willmot
+from claimtotals.older import NotOlder, upgraded
 from claimtotals.picture import DEFAULT_TITLE, picture
 from claimtotals.refusals import Refused
-from claimtotals.sheets import read_sheet
+from claimtotals.sheets import Sheet, read_sheet
 from claimtotals.starts import start_of_mean, start_of_trials
 from claimtotals.usage import Once, Parser, Version, called, title
 
 COMMAND = "claimtotals"
 
 EXAMPLES = ("start --mean 37/10", "law --alpha 0 9 --beta 12 -1", "table examples/poisson.txt --digits", "level examples/poisson.txt 0.99",
-            "layers examples/poisson.txt 5:10 10:20", "picture examples/poisson.txt -o glass.svg")
+            "layers examples/poisson.txt 5:10 10:20", "picture examples/poisson.txt -o glass.svg",
+            "upgrade examples/older.txt > new.txt")
 STATUS = "status: 0; 1 where a call refuses, which is told in words on standard error; 2 for wrong use, and where input or output fails"
 
 
-def known_curve(path: str) -> Curve:
+def sheet_bytes(path: str) -> bytes:
     """A file is read before the library is built, so that a wrong name is told at once; who types a sheet is not kept waiting then."""
     if path == "-":
         library.calls()
-    return read_sheet(streams.read_sheet_bytes(COMMAND, path)).curve()
+    return streams.read_sheet_bytes(COMMAND, path)
 
 
-def remark(path: str, sentence: Optional[str]) -> None:
+def known_sheet(path: str) -> Sheet:
+    return read_sheet(sheet_bytes(path))
+
+
+def remark(path: str, sheet: Sheet, sentence: Optional[str]) -> None:
     if sentence:
-        streams.say(COMMAND, f"{streams.source(path)}: {sentence}")
+        streams.say(COMMAND, f"{streams.source(path)}: {sentence}{about_start(sheet.job.zero)}")
 
 
 # ---- start
@@ -134,9 +140,10 @@ def comma_alone(given: argparse.Namespace) -> str:
 
 
 def table(given: argparse.Namespace) -> int:
-    curve = known_curve(given.sheet)
+    sheet = known_sheet(given.sheet)
+    curve = sheet.curve()
     streams.write_output(table_text(curve, given).encode())
-    remark(given.sheet, about_sums(curve.low, curve.high))
+    remark(given.sheet, sheet, about_sums(curve.low, curve.high))
     return streams.SUCCESS
 
 
@@ -182,7 +189,8 @@ def refusals_told(about: str, answers: dict[str, TotalOrRefusal]) -> list[str]:
 
 def level(given: argparse.Namespace) -> int:
     """Every level is asked, also after one that is refused."""
-    curve, lines, sentences = known_curve(given.sheet), [], []
+    sheet, lines, sentences = known_sheet(given.sheet), [], []
+    curve = sheet.curve()
     for units in given.levels:
         name = f"level {layout.short_chance(units)}"
         answers = {query: total_or_refusal(curve, query, units) for query in given.queries}
@@ -191,7 +199,7 @@ def level(given: argparse.Namespace) -> int:
     streams.write_output("".join(lines).encode())
     for sentence in sentences:
         streams.say(COMMAND, sentence)
-    remark(given.sheet, about_excess(curve.low, curve.high))
+    remark(given.sheet, sheet, about_excess(curve.low, curve.high))
     return streams.REFUSED if sentences else streams.SUCCESS
 
 
@@ -232,24 +240,39 @@ def layer_line(name: str, low: int, high: int) -> str:
 
 
 def layers(given: argparse.Namespace) -> int:
-    curve = known_curve(given.sheet)
+    sheet = known_sheet(given.sheet)
+    curve = sheet.curve()
     costs = layer_costs(curve, given.layers)
     lines = [layer_line(layer.text, cost.low, cost.high) for layer, cost in zip(given.layers, costs)]
     streams.write_output("".join([*lines, f"{MEANING}\n"]).encode())
-    remark(given.sheet, about_layers(curve.low, curve.high))
+    remark(given.sheet, sheet, about_layers(curve.low, curve.high))
     return streams.SUCCESS
 
 
 # ---- picture
 
 def draw(given: argparse.Namespace) -> int:
-    curve = known_curve(given.sheet)
+    sheet = known_sheet(given.sheet)
+    curve = sheet.curve()
     drawn = picture(list(curve), given.title).encode()
     if given.output == "-":
         streams.write_output(drawn)
     else:
         streams.write_file(given.output, drawn)
-    remark(given.sheet, about_excess(curve.low, curve.high))
+    remark(given.sheet, sheet, about_excess(curve.low, curve.high))
+    return streams.SUCCESS
+
+
+# ---- upgrade
+
+def upgrade(given: argparse.Namespace) -> int:
+    """Nothing is written before the reader has read all of it."""
+    try:
+        new = upgraded(sheet_bytes(given.sheet))
+    except NotOlder as fault:
+        streams.say(COMMAND, f"{streams.source(given.sheet)}: {fault}")
+        return streams.REFUSED
+    streams.write_output(new)
     return streams.SUCCESS
 
 
@@ -278,8 +301,13 @@ def add_start(commands: argparse._SubParsersAction) -> None:
         "may be wider than need be, most of all with many trials of a small chance.\n"
         "\n"
         "A negative binomial law of whole shape takes its shape for the trials, and for the chance the q with which its chance of no\n"
-        "claims is (1-q)^shape; Panjer and Willmot write p for it. Texts that write p for 1-q differ: give 1-p.",
-        "--mean 37/10", "--chance 1/20 --trials 30")
+        "claims is (1-q)^shape; Panjer and Willmot write p for it. Texts that write p for 1-q differ: give 1-p.\n"
+        "\n"
+        "The line is that of a sheet with ZERO 0. START is the chance that the total is zero: where claims close at nothing, so that ZERO\n"
+        "has a weight, give the mean or the chance of the claims that do not. With z for the weight at ZERO over the sum of all weights\n"
+        "that is a mean times 1-z; a chance p of a binomial law times 1-z; a chance q of a negative binomial law times (1-z)/(1-qz). Of 3\n"
+        "claims a year, one in three of which closes at nothing, it is that of --mean 2.",
+        "--mean 37/10", "--chance 1/20 --trials 30", "--mean 2")
     laws = parser.add_mutually_exclusive_group(required=True)
     laws.add_argument("--mean", action=Once, metavar="R/S", type=fraction, help="as 37/10, 4 or 3.7, which is 37/10; at most 20")
     laws.add_argument("--chance", action=Once, metavar="R/S", type=fraction, help="as 1/20, or 0.05, which is 5/100; below 1")
@@ -366,13 +394,27 @@ def add_picture(commands: argparse._SubParsersAction) -> None:
     parser.add_argument("--title", metavar="TEXT", type=title, default=DEFAULT_TITLE, help=f"what stands above it, else: {DEFAULT_TITLE}")
 
 
+def add_upgrade(commands: argparse._SubParsersAction) -> None:
+    parser = subcommand(
+        commands, "upgrade", upgrade,
+        "The new sheet of an older one, from before version 0.7.0: a line `ZERO 0` comes before the line SEVERITY, and all else stays.\n"
+        "\n"
+        "The new sheet is read whole, as all commands read sheets, before anything is written. Refused are a sheet that has its line ZERO\n"
+        "already, and one that cannot be read even with this line; the line that is told then is that of the older sheet.\n"
+        "\n"
+        "Give the new sheet another name than the old one has: the shell empties the file behind > before the old sheet is read.",
+        "examples/older.txt > new.txt", "< examples/older.txt > new.txt")
+    parser.add_argument("sheet", metavar="OLD", nargs="?", default="-", help="a file; without it, or for `-`, standard input")
+    parser.set_defaults(about=lambda given: streams.source(given.sheet))
+
+
 def arguments(words: Optional[Sequence[str]], version: Callable[[], str]) -> argparse.Namespace:
     parser = Parser(COMMAND, prog=called(COMMAND),
                     description="Yearly claim totals: the chance of each as a low and a high, proved to enclose it.",
                     epilog="\n".join(["example:", *(f"  {called(COMMAND)} {example}" for example in EXAMPLES), "", STATUS]))
     parser.add_argument("--version", action=Version, command=COMMAND, find=version)
     commands = parser.add_subparsers(metavar="COMMAND", required=True)
-    for add in add_start, add_law, add_table, add_level, add_layers, add_picture:
+    for add in add_start, add_law, add_table, add_level, add_layers, add_picture, add_upgrade:
         add(commands)
     given = parser.parse_args(words)
     wrong = given.wrong(given)

@@ -14,14 +14,15 @@ TERMS = 4
 
 
 class Job(NamedTuple):
-    """A law, the start of its chances, and the last total to compute.
+    """A law, the start of its chances, the last total to compute, and how many claims close at nothing.
 
     order        k, the order of the law
     divisor      D, the divisor of its terms
     a, b         A_1..A_4 and B_1..B_4; those past k are 0
     start_low    s, and
-    start_high   t: the chance of no claims lies from s to t billionths
+    start_high   t: the chance that the total is zero lies from s to t billionths; where `zero` is 0 that is the chance of no claims
     last         X, the last total
+    zero         w(0), the weight of the claims of size 0, beside the weights of the sizes from 1 on
     """
     order: int
     divisor: int
@@ -30,13 +31,20 @@ class Job(NamedTuple):
     start_low: int
     start_high: int
     last: int
+    zero: int = 0
 
     @classmethod
-    def of(cls, divisor: int, terms: Iterable[tuple[int, int]], start: tuple[int, int], last: int) -> Job:
+    def of(cls, divisor: int, terms: Iterable[tuple[int, int]], start: tuple[int, int], last: int, zero: int = 0) -> Job:
         """The job of a law that is given by its divisor and its pairs of terms (A, B), one for each order.
 
         >>> Job.of(1, [(0, 1)], (367879441, 367879442), 20).order
         1
+
+        With a weight of claims that close at nothing the start is the chance that the total is zero. Of two claims a year every second one
+        does so here, and the start is that of the mean 1.
+
+        >>> Job.of(1, [(0, 2)], (367879441, 367879442), 20, zero=2).zero
+        2
         """
         pairs = [places(f"terms[{i}]", pair) for i, pair in enumerate(places("terms", terms))]
         if not 1 <= len(pairs) <= TERMS or any(len(pair) != 2 for pair in pairs):
@@ -45,7 +53,7 @@ class Job(NamedTuple):
         if len(ends) != 2:
             raise ValueError(f"start: two numbers, not {ends!r:.200}")
         none = (0,) * (TERMS - len(pairs))
-        return cls(len(pairs), divisor, tuple(a for a, _ in pairs) + none, tuple(b for _, b in pairs) + none, *ends, last).checked()
+        return cls(len(pairs), divisor, tuple(a for a, _ in pairs) + none, tuple(b for _, b in pairs) + none, *ends, last, zero).checked()
 
     def checked(self) -> Job:
         """The same with plain numbers, each of which fits a call; else a ValueError."""
@@ -54,7 +62,7 @@ class Job(NamedTuple):
             if len(terms) != TERMS:
                 raise ValueError(f"{name}: {TERMS} numbers, not {len(terms)}")
         return Job(whole("order", self.order), whole("divisor", self.divisor), a, b, whole("start_low", self.start_low),
-                   whole("start_high", self.start_high), whole("last", self.last))
+                   whole("start_high", self.start_high), whole("last", self.last), whole("zero", self.zero))
 
 
 class Row(NamedTuple):
@@ -136,23 +144,29 @@ class Curve:
         return [row._asdict() for row in self]
 
 
-def curve_refusal(weights: Iterable[int], number: int, place: int) -> Refused:
+def curve_refusal(job: Job, weights: Iterable[int], number: int, place: int) -> Refused:
     """What is said of the curve call's refusal of a job with these weights."""
-    return Refused(number, place, more=f"; it is {sum(weights):,}" if number == 6 else "")
+    return Refused(number, place, more=f"; it is {job.zero + sum(weights):,}" if number == 6 else "")
 
 
 def curve(job: Job, weights: Iterable[int]) -> Curve:
-    """The chance of each total from 0 to the job's last, where claims of the sizes 1, 2 and so on have these weights; Refused where the job
-    or the weights are outside the limits."""
+    """The chance of each total from 0 to the job's last, where claims of the sizes 1, 2 and so on have these weights, and those of size 0
+    the job's; Refused where the job or the weights are outside the limits.
+
+    Half of the claims close at nothing here, and what is left is the law of mean 1: the chances are those of `Curve`'s example.
+
+    >>> curve(Job.of(1, [(0, 2)], (367879441, 367879442), 3, zero=2), [1, 1]).low
+    (367879441, 183939720, 229924650, 99634015)
+    """
     job, weights = Job(*job).checked(), wholes("weights", weights)
     table = row(weights, UNSIGNED)
     low, high, bound = ((SIGNED * library.TOTALS)() for _ in range(3))
     work, place = (SIGNED * library.WORK)(), c_size_t()
     number = library.calls().claimtotals_curve(
-        job.order, job.divisor, row(job.a, SIGNED), row(job.b, SIGNED), job.start_low, job.start_high, job.last, table, len(table), low,
-        len(low), high, len(high), bound, len(bound), work, len(work), byref(place))
+        job.order, job.divisor, row(job.a, SIGNED), row(job.b, SIGNED), job.start_low, job.start_high, job.last, job.zero, table,
+        len(table), low, len(low), high, len(high), bound, len(bound), work, len(work), byref(place))
     if number:
-        raise curve_refusal(weights, number, place.value)
+        raise curve_refusal(job, weights, number, place.value)
     count = job.last + 1
     return Curve(tuple(low[:count]), tuple(high[:count]), tuple(bound[:count]))
 

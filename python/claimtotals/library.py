@@ -47,12 +47,12 @@ CALLS = {
         c_int64, c_int64, c_int64, c_int64, POINTER(c_uint64), POINTER(c_int64), POINTER(c_int64),
     ]),
     "claimtotals_curve": (c_uint64, [
-        c_uint64, c_uint64, POINTER(c_int64), POINTER(c_int64), c_uint64, c_uint64, c_uint64, *row_types(c_uint64), *row_types(c_int64),
-        *row_types(c_int64), *row_types(c_int64), *row_types(c_int64), POINTER(c_size_t),
+        c_uint64, c_uint64, POINTER(c_int64), POINTER(c_int64), c_uint64, c_uint64, c_uint64, c_uint64, *row_types(c_uint64),
+        *row_types(c_int64), *row_types(c_int64), *row_types(c_int64), *row_types(c_int64), POINTER(c_size_t),
     ]),
     "claimtotals_read_sheet": (c_uint64, [
         BYTES, c_size_t, *row_types(c_uint64), POINTER(c_size_t), POINTER(c_uint64), POINTER(c_uint64), POINTER(c_int64), POINTER(c_int64),
-        POINTER(c_uint64), POINTER(c_uint64), POINTER(c_uint64), POINTER(c_size_t),
+        POINTER(c_uint64), POINTER(c_uint64), POINTER(c_uint64), POINTER(c_uint64), POINTER(c_size_t),
     ]),
     "claimtotals_faulty_word": (None, [BYTES, c_size_t, c_size_t, POINTER(c_size_t), POINTER(c_size_t)]),
     "claimtotals_sure": LEVEL_QUERY,
@@ -109,6 +109,6 @@ def answered(name: str, given: Sequence[int], *kinds: type) -> list[int]:
 
 
 def version() -> str:
-    """That of the library: 0.6.0."""
+    """That of the library: 0.7.0."""
     number = calls().claimtotals_version()
     return f"{number // 10_000}.{number // 100 % 100}.{number % 100}"

@@ -8,7 +8,7 @@ import subprocess
 from typing import Callable, Optional, Sequence
 
 from claimtotals import streams
-from claimtotals.advice import about_sums
+from claimtotals.advice import about_start, about_sums
 from claimtotals.curves import curve_refusal
 from claimtotals.refusals import REFUSALS, Refused
 from claimtotals.sheets import read_sheet, sheet_refusal
@@ -53,7 +53,7 @@ def refusal(text: bytes, sheet: bytes) -> Optional[Refused]:
     number, place = map(int, numbers)
     if "sheet" in REFUSALS[number].calls:
         return sheet_refusal(sheet, number, place)
-    return curve_refusal(read_sheet(sheet).weights, number, place)
+    return curve_refusal(*read_sheet(sheet), number, place)
 
 
 def columns(text: bytes) -> list[tuple[int, ...]]:
@@ -76,7 +76,7 @@ def run(path: str, program: Callable[[], pathlib.Path]) -> int:
     _, low, high, _ = columns(text)
     remark = about_sums(low, high)
     if remark:
-        streams.say(COMMAND, f"{streams.source(path)}: {remark}")
+        streams.say(COMMAND, f"{streams.source(path)}: {remark}{about_start(read_sheet(sheet).job.zero)}")
     return streams.SUCCESS
 
 

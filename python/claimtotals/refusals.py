@@ -13,12 +13,13 @@ MOST_SHOWN = 40
 SEEN = {
     22: {"line ends of old Macs": rb".*\r"},
     23: {
+        "older sheet": rb"SEVERITY\b",
         "byte order mark": rb"\xef\xbb\xbf|\xff\xfe|\xfe\xff",
         "comment": rb".*(#|//)",
         "empty": rb"\s*$",
         "indented": rb"[ \t]+\S",
         "tab": rb".*\t",
-        "lower case": rb"(?=[A-Z]*[a-z])(?i:law|term|start|last|severity|w)( |$)",
+        "lower case": rb"(?=[A-Z]*[a-z])(?i:law|term|start|last|zero|severity|w)( |$)",
         "other separators": rb".*[,;\x80-\xff]",
         "spaces": rb".*(  | \r?$)",
     },
@@ -36,6 +37,9 @@ SEEN = {
     },
 }
 
+# And what the line before it looks like, where that counts too: behind a good line LAST the line ZERO is due.
+SEEN_BEFORE = {(23, "older sheet"): rb"LAST "}
+
 
 class Refusal(NamedTuple):
     """A section of the table; some refusals are those of several calls."""
@@ -48,12 +52,12 @@ class Refusal(NamedTuple):
     remedy: str
     seen: dict
 
-    def remedy_for(self, text: bytes) -> str:
-        """What to do; by what is seen in the text of the line or the word, where there is a remedy for it."""
+    def look(self, text: bytes, before: bytes) -> str:
+        """What is seen in the text of the line or the word, and in that of the line before; nothing where there is no remedy for it."""
         for look, pattern in SEEN.get(self.number, {}).items():
-            if re.match(pattern, text):
-                return self.seen[look]
-        return self.remedy
+            if re.match(pattern, text) and re.match(SEEN_BEFORE.get((self.number, look), b""), before):
+                return look
+        return ""
 
 
 def refusal(number: int, section: configparser.SectionProxy) -> Refusal:
@@ -89,18 +93,21 @@ class Refused(Exception):
     word        the faulty word, as bytes, where the number is 24, else None
     name        the reason's name
     why         what holds
+    seen        what is seen in the line or the word that tells what to do; empty where it is nothing known
     remedy      what to do
     sentence    all of it, in words
     """
 
-    def __init__(self, number: int, place: int, *, word: Optional[bytes] = None, text: bytes = b"", more: str = "") -> None:
-        """`text` is the line or the word where it may be seen what to do, and `more` is said after why."""
+    def __init__(self, number: int, place: int, *, word: Optional[bytes] = None, text: bytes = b"", before: bytes = b"",
+                 more: str = "") -> None:
+        """`text` is the line or the word where it may be seen what to do, `before` the line before it, and `more` is said after why."""
         super().__init__(number, place)  # from these it is made anew where it was pickled, and then gets its attributes back
         said = REFUSALS[number]
         self.number, self.place, self.word, self.name = number, place, word, said.name
         self.line = place if "sheet" in said.calls else None
         self.why = said.why + more
-        self.remedy = said.remedy_for(text)
+        self.seen = said.look(text, before)
+        self.remedy = said.seen.get(self.seen, said.remedy)
         self.at = f"{said.at} {place}" if said.at else ""
 
     def __str__(self) -> str:
@@ -115,6 +122,11 @@ class Refused(Exception):
     @property
     def sentence(self) -> str:
         return f"{self.at}: {self.reason}" if self.at else self.reason
+
+    def on_line(self, line: int) -> Refused:
+        """The same, told of another line: for a sheet that was read with lines that its file does not have."""
+        self.place, self.line, self.at = line, line, f"line {line}"
+        return self
 
     def of(self, source: str) -> str:
         """The sentence with the name of the file or whatever else was refused."""

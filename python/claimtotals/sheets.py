@@ -11,7 +11,7 @@ from claimtotals.refusals import Refused
 
 
 class Sheet(NamedTuple):
-    """What a sheet says: a job, and the weights of the claim sizes 1, 2 and so on."""
+    """What a sheet says: a job, which has the weight of size 0, and the weights of the claim sizes 1, 2 and so on."""
     job: Job
     weights: tuple[int, ...]
 
@@ -20,7 +20,7 @@ class Sheet(NamedTuple):
         job, weights = self.job.checked(), wholes("weights", self.weights)
         terms = list(zip(job.a, job.b))[:job.order]
         lines = [("LAW", job.order, job.divisor), *(("TERM", *pair) for pair in terms), ("START", job.start_low, job.start_high),
-                 ("LAST", job.last), ("SEVERITY", len(weights)), *(("W", weight) for weight in weights)]
+                 ("LAST", job.last), ("ZERO", job.zero), ("SEVERITY", len(weights)), *(("W", weight) for weight in weights)]
         text = "".join(" ".join(map(str, line)) + "\n" for line in lines).encode()
         try:
             if read_sheet(text) == (job, weights):
@@ -46,13 +46,14 @@ def sheet_refusal(data: bytes, number: int, line: int) -> Refused:
     if number == 24:
         word = faulty_word(data)
         return Refused(number, line, word=word, text=word)
-    return Refused(number, line, text=data.split(b"\n")[line - 1] if line else b"")
+    before, text = [b"", *data.split(b"\n")][line - 1:line + 1] if line else (b"", b"")
+    return Refused(number, line, text=text, before=before)
 
 
 def read_sheet(data: bytes) -> Sheet:
     """The job and the weights of a sheet, which is given by its bytes; Refused where it is no sheet.
 
-    >>> read_sheet(b"LAW 1 1\\nTERM 0 1\\nSTART 367879441 367879442\\nLAST 3\\nSEVERITY 2\\nW 1\\nW 1\\n").weights
+    >>> read_sheet(b"LAW 1 1\\nTERM 0 1\\nSTART 367879441 367879442\\nLAST 3\\nZERO 0\\nSEVERITY 2\\nW 1\\nW 1\\n").weights
     (1, 1)
     """
     if not isinstance(data, (bytes, bytearray, memoryview)):
@@ -60,12 +61,12 @@ def read_sheet(data: bytes) -> Sheet:
     data = bytes(data)
     weights = (UNSIGNED * library.WEIGHTS)()
     line, count = c_size_t(), c_size_t()
-    order, divisor, start_low, start_high, last = (UNSIGNED() for _ in range(5))
+    order, divisor, start_low, start_high, last, zero = (UNSIGNED() for _ in range(6))
     a, b = (SIGNED * TERMS)(), (SIGNED * TERMS)()
     number = library.calls().claimtotals_read_sheet(
         data, len(data), weights, len(weights), byref(line), byref(order), byref(divisor), a, b, byref(start_low), byref(start_high),
-        byref(last), byref(count))
+        byref(last), byref(zero), byref(count))
     if number:
         raise sheet_refusal(data, number, line.value)
-    job = Job(order.value, divisor.value, tuple(a), tuple(b), start_low.value, start_high.value, last.value)
+    job = Job(order.value, divisor.value, tuple(a), tuple(b), start_low.value, start_high.value, last.value, zero.value)
     return Sheet(job, tuple(weights[:count.value]))

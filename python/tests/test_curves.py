@@ -23,9 +23,14 @@ ROWS = [Row(0, 367879441, 367879442, 1), Row(1, 183939720, 183939721, 2), Row(2,
 
 class OfJob(unittest.TestCase):
     def test_of(self):
-        self.assertEqual(P1, (1, 1, (0, 0, 0, 0), (1, 0, 0, 0), 367879441, 367879442, 3))
-        self.assertEqual(Job.of(9, [(1, 2), (3, 4), (5, 6), (-7, -8)], (10, 11), 12),
-                         Job(order=4, divisor=9, a=(1, 3, 5, -7), b=(2, 4, 6, -8), start_low=10, start_high=11, last=12))
+        self.assertEqual(P1, (1, 1, (0, 0, 0, 0), (1, 0, 0, 0), 367879441, 367879442, 3, 0))
+        self.assertEqual(Job.of(9, [(1, 2), (3, 4), (5, 6), (-7, -8)], (10, 11), 12, 13),
+                         Job(order=4, divisor=9, a=(1, 3, 5, -7), b=(2, 4, 6, -8), start_low=10, start_high=11, last=12, zero=13))
+
+    def test_no_zero(self):
+        """Without it there are no claims of size 0."""
+        self.assertEqual(Job(1, 1, (0, 0, 0, 0), (1, 0, 0, 0), 367879441, 367879442, 3), P1)
+        self.assertEqual(Job.of(1, [(0, 1)], (367879441, 367879442), 3, zero=0), P1)
 
     def test_any_rows(self):
         self.assertEqual(Job.of(1, iter([[0, 1]]), iter([367879441, 367879442]), 3), P1)
@@ -75,6 +80,18 @@ class Rule(unittest.TestCase):
         self.check(job, row, row, [0] + [1] * 500, [0] * 499 + [1000])
         self.check(job, row, row, [0, 0] + [1] * 499, [0] * 499 + [1])
 
+    def test_zeros(self):
+        """Claims of size 0. Of two a year each second one closes at nothing, and the rest is P1: each factor is twice as large, and so is
+        the divisor, 4x. Of a law with a = 1/2, half of whose claims do, the divisor is (2 * 2 - 1)x, and the factor x: a third of each
+        chance is the next, and the start is 2/3. With a = 1 the divisor is (2 - 1)x, which is 1 at total 1: there is nothing to round
+        there, and nothing is added. Where 999 of 1,000 claims close at nothing, a thousandth is left of each."""
+        job = Job.of(1, [(0, 2)], (367879441, 367879442), 3, zero=2)
+        self.check(job, [367879441, 183939720, 229924650, 99634015], [367879442, 183939721, 229924652, 99634016], [1, 2, 2, 2], (1, 1))
+        job = Job.of(2, [(1, 0)], (666666666, 666666667), 2, zero=1)
+        self.check(job, [666666666, 222222222, 74074074], [666666667, 222222223, 74074075], [1, 2, 2])
+        self.check(Job.of(1, [(1, 0)], (5, 5), 3, zero=1), [5] * 4, [5] * 4, [0, 0, 1, 2])
+        self.check(Job.of(1, [(0, 1)], (UNIT, UNIT), 1, zero=999), [UNIT, UNIT // 1000], [UNIT, UNIT // 1000], [0, 1])
+
     def test_weights_in_any_row(self):
         for weights in [1, 1], iter([1, 1]), (1 for _ in "ab"), memoryview(b"\1\1"), array.array("q", [1, 1]), {1: 1, 2: 1}.values():
             with self.subTest(type(weights).__name__):
@@ -118,6 +135,21 @@ class Refusals(unittest.TestCase):
         """P7. The sums of the last two are good ones but for a 65th bit."""
         for weights in (1001,), (500, 501), (0, 0), (2 ** 64 - 1, 2), (2 ** 63, 2 ** 63, 5):
             self.check(6, 0, P2._replace(last=501), weights)
+        for zero, weight in (1000, 1), (1001, 0), (2 ** 64 - 1, 2), (2 ** 63, 2 ** 63 + 1):
+            self.check(6, 0, Job.of(1, [(0, 1), (0, 1)], (1, 1), 501, zero), (weight,))
+
+    def test_zero_order(self):
+        for order, weights in (2, (1,)), (4, (1,)), (2, (0, 0)):
+            self.check(11, 0, Job.of(1, [(2, 0)] * order, (1, 1), 501, zero=1), weights)
+
+    def test_zero_divisor(self):
+        """2 - 2 and 2 - 3; 1 - 2 without another weight; 999 * 1000 - 1000 * 999."""
+        for divisor, a, zero, weight in (1, 2, 1, 1), (1, 3, 1, 1), (1, 2, 1, 0), (999, 1000, 999, 1):
+            self.check(12, 0, Job.of(divisor, [(a, 0)], (1, 1), 501, zero), (weight,))
+
+    def test_only_zeros(self):
+        for zero, weights in (1, (0,)), (1000, (0, 0, 0)):
+            self.check(13, 0, Job.of(1, [(0, 1)], (1, 1), 501, zero), weights)
 
     def test_last(self):
         """P8."""

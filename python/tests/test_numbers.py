@@ -46,7 +46,7 @@ LAWS = {law_panjer_willmot: {"alpha_0": 0, "alpha_1": 1, "beta_0": 1, "beta_1": 
 
 def takers():
     """Each number that can be handed over: what it is called, its kind, and a function that hands it over."""
-    for name in "order", "divisor", "start_low", "start_high", "last":
+    for name in "order", "divisor", "start_low", "start_high", "last", "zero":
         yield name, "unsigned", lambda number, name=name: curve(JOB._replace(**{name: number}), [1])
     for name in "a", "b":
         for place in range(4):
@@ -69,6 +69,7 @@ def takers():
     yield "b[0]", "signed", lambda number: Job.of(1, [(0, number)], (1, 1), 1)
     yield "start_high", "unsigned", lambda number: Job.of(1, [(0, 1)], (1, number), 1)
     yield "last", "unsigned", lambda number: Job.of(1, [(0, 1)], (1, 1), number)
+    yield "zero", "unsigned", lambda number: Job.of(1, [(0, 1)], (1, 1), 1, number)
     yield "upper", "unsigned", start_of_mean
     yield "upper", "unsigned", lambda number: start_of_mean(number, 3)
     yield "lower", "unsigned", lambda number: start_of_mean(1, number)
@@ -163,9 +164,10 @@ class Taken(unittest.TestCase):
         asked = (250000000, 500000000, 250000000, 0, 0)
         for one, three in (Whole(1), Whole(3)), (Named.ONE, Named.THREE):
             with self.subTest(type(one).__name__):
-                job = Job.of(one, [(Whole(-1), three)], (Whole(250000000), Whole(250000000)), Whole(4))
+                job = Job.of(one, [(Whole(-1), three)], (Whole(250000000), Whole(250000000)), Whole(4), Whole(0))
                 self.assertEqual(job, JOB)
-                self.assertEqual({type(number) for number in (job.divisor, *job.a, *job.b, job.start_low, job.start_high, job.last)}, {int})
+                numbers = job.divisor, *job.a, *job.b, job.start_low, job.start_high, job.last, job.zero
+                self.assertEqual({type(number) for number in numbers}, {int})
                 found = curve(JOB._replace(order=one, divisor=one), [one])
                 self.assertEqual((found.low, found.high), (asked, asked))
                 self.assertEqual(found[three], (3, 0, 0, 1))

@@ -93,7 +93,7 @@ class Types(unittest.TestCase):
 
 # ---- calls at once
 
-TEXT = b"LAW 1 1\nTERM 0 1\nSTART 367879441 367879442\nLAST 3\nSEVERITY 2\nW %d\nW %d\n"
+TEXT = b"LAW 1 1\nTERM 0 1\nSTART 367879441 367879442\nLAST 3\nZERO 0\nSEVERITY 2\nW %d\nW %d\n"
 
 
 def binomial(divisor):

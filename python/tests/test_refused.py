@@ -7,7 +7,7 @@ from claimtotals import (UNIT, Job, Refused, curve, law_hesselager, law_panjer_w
                          start_of_trials, sure)
 
 # The paper's P1 as a sheet and P2 as a job.
-TEXT = b"LAW 1 1\nTERM 0 1\nSTART 367879441 367879442\nLAST 3\nSEVERITY 2\nW 1\nW 1\n"
+TEXT = b"LAW 1 1\nTERM 0 1\nSTART 367879441 367879442\nLAST 3\nZERO 0\nSEVERITY 2\nW 1\nW 1\n"
 JOB = Job.of(1, [(-1, 3)], (250000000, 250000000), 4)
 
 # For each refusal that can be raised: the reason's name, its place, what the place counts, and a call that is refused so. The others, 8 and
@@ -19,15 +19,18 @@ CASES = {
     4: ("Start", 0, "", lambda: curve(JOB._replace(start_low=250000001), [1])),
     5: ("Severities", 0, "", lambda: curve(JOB, [])),
     6: ("Weights", 0, "", lambda: curve(JOB, [1001])),
+    11: ("ZeroOrder", 0, "", lambda: curve(Job.of(1, [(0, 1), (0, 0)], (1, 1), 1, zero=1), [1])),
+    12: ("ZeroDivisor", 0, "", lambda: curve(Job.of(1, [(2, 0)], (1, 1), 1, zero=1), [1])),
+    13: ("OnlyZeros", 0, "", lambda: curve(JOB._replace(zero=1), [0])),
     7: ("Last", 0, "", lambda: curve(JOB._replace(last=501), [1])),
     9: ("Range", 1, "total", lambda: curve(Job.of(1, [(0, 3)], (UNIT, UNIT), 1), [1])),
     10: ("Bound", 1, "total", lambda: curve(Job.of(1, [(0, 2)], (0, UNIT), 1), [1, 1])),
     21: ("Size", 0, "", lambda: read_sheet(b"")),
-    22: ("Missing", 7, "line", lambda: read_sheet(TEXT[:-1])),
-    23: ("Form", 6, "line", lambda: changed(b"2\nW 1\n", b"2\nW  1\n")),
-    24: ("Word", 6, "line", lambda: changed(b"2\nW 1\n", b"2\nW 10n5\n")),
+    22: ("Missing", 8, "line", lambda: read_sheet(TEXT[:-1])),
+    23: ("Form", 7, "line", lambda: changed(b"2\nW 1\n", b"2\nW  1\n")),
+    24: ("Word", 7, "line", lambda: changed(b"2\nW 1\n", b"2\nW 10n5\n")),
     25: ("Limit", 1, "line", lambda: changed(b"LAW 1", b"LAW 5")),
-    26: ("Excess", 8, "line", lambda: read_sheet(TEXT + b"W 1\n")),
+    26: ("Excess", 9, "line", lambda: read_sheet(TEXT + b"W 1\n")),
     31: ("Rows", 0, "", lambda: sure([], [], 1)),
     32: ("Level", 0, "", lambda: possible([1], [1], 0)),
     33: ("Entry", 1, "place", lambda: sure([1, 2], [1, 1], 1)),
@@ -86,7 +89,7 @@ class Attributes(unittest.TestCase):
         refusals = [raised(call) for _, _, _, call in CASES.values()]
         for refusal in refusals:
             with self.subTest(refusal.number):
-                self.assertRegex(refusal.why, r"^[a-z].*[^.]$")
+                self.assertRegex(refusal.why, r"^([a-z]|[A-Z] ).*[^.]$")
                 self.assertRegex(refusal.remedy, r"^[A-Z].*[^.]\.$")
         self.assertEqual(len({refusal.why for refusal in refusals}), len(CASES))
 
@@ -96,7 +99,7 @@ class Attributes(unittest.TestCase):
 
     def test_source(self):
         """With the name of a file."""
-        for number, between in (24, ", line 6: "), (21, ": "), (9, ", total 1: "), (41, ": "), (51, ": "), (63, ", layer 1: "):
+        for number, between in (24, ", line 7: "), (21, ": "), (9, ", total 1: "), (41, ": "), (51, ": "), (63, ", layer 1: "):
             refusal = raised(CASES[number][3])
             self.assertTrue(refusal.of("a.txt").startswith(f"a.txt{between}refused by {number}: "), refusal.of("a.txt"))
 
@@ -107,7 +110,7 @@ class Attributes(unittest.TestCase):
             for other in pickle.loads(pickle.dumps(refusal)), copy.copy(refusal):
                 with self.subTest(number):
                     self.assertIs(type(other), Refused)
-                    for name in "number", "place", "line", "word", "name", "why", "remedy", "sentence":
+                    for name in "number", "place", "line", "word", "name", "why", "seen", "remedy", "sentence":
                         self.assertEqual(getattr(other, name), getattr(refusal, name))
 
 
@@ -163,11 +166,22 @@ class Remedies(unittest.TestCase):
         self.seen(with_weight(b"W  1"), 23, "single spaces")
         self.seen(with_weight(b"W 1 "), 23, "single spaces")
 
+    def test_older_sheet(self):
+        """Where ZERO is due and the line is SEVERITY, whatever else is wrong with that."""
+        for line in b"SEVERITY 2", b"SEVERITY  2", b"SEVERITY", b"SEVERITY 2 # sizes", b"SEVERITY\t2":
+            refusal = raised(lambda: changed(b"ZERO 0\nSEVERITY 2", line))
+            self.assertEqual((refusal.line, refusal.seen), (5, "older sheet"))
+            self.seen(refusal, 23, "older sheet", "`ZERO 0` before the line SEVERITY", "`claimtotals upgrade OLD > NEW`")
+
     def test_other_lines(self):
-        """Of those in capitals nobody is sent looking for lower case."""
+        """Of those in capitals nobody is sent looking for lower case; nor for a line ZERO that is not missing."""
         for old, new in (
-                (b"LAW 1 1", b"LAW 1"), (b"TERM 0 1", b"TERM 0 1 2"), (b"LAST 3\n", b""), (b"2\nW 1\n", b"2\nW\n"), (b"LAST 3", b"xyz")):
-            self.not_seen(raised(lambda: changed(old, new)), 23)
+                (b"LAW 1 1", b"LAW 1"), (b"TERM 0 1", b"TERM 0 1 2"), (b"LAST 3\n", b""), (b"2\nW 1\n", b"2\nW\n"), (b"LAST 3", b"xyz"),
+                (b"LAST 3\nZERO 0\n", b""), (b"ZERO 0", b"ZERO"), (b"ZERO 0", b"ZERO 0 0"), (b"ZERO 0\n", b"ZERO 0\nZERO 0\n"),
+                (b"SEVERITY 2", b"SEVERITY 2 2"), (b"SEVERITY 2\n", b"SEVERITY 2\nSEVERITY 2\n"), (b"ZERO", b"NULL")):
+            refusal = raised(lambda: changed(old, new))
+            self.not_seen(refusal, 23)
+            self.assertEqual(refusal.seen, "")
 
     def test_word(self):
         self.seen(raised(lambda: read_sheet(TEXT.replace(b"\n", b"\r\n"))), 24, "line ends of Unix", "Windows")
@@ -191,15 +205,17 @@ class Remedies(unittest.TestCase):
         """With 6 the sum is told."""
         for weights, told in ([600, 601], "1,201"), ([0], "0"), ([2 ** 64 - 1, 2], "18,446,744,073,709,551,617"):
             self.assertTrue(raised(lambda: curve(JOB, weights)).why.endswith(f"; it is {told}"))
+        for zero, told in (400, "1,001"), (2 ** 64 - 1, "18,446,744,073,709,552,216"):
+            self.assertTrue(raised(lambda: curve(JOB._replace(zero=zero), [601])).why.endswith(f"; it is {told}"))
 
     def test_smaller_gap(self):
-        """The chance of no claims in 9 trials of 9/10 is one unit: given as s and t it helps where a unit more is refused by 10."""
+        """The chance of a zero total in 9 trials of 9/10 is one unit: given as s and t it helps where a unit more is refused by 10."""
         def nine_trials(high):
             return curve(Job.of(1, [(-9, 90)], (1, high), 14), [1, 1])
 
         self.assertEqual(raised(lambda: nine_trials(2)).number, 10)
         self.assertEqual(len(nine_trials(1)), 15)
-        self.assertIn("a chance of no claims that is a whole number of units", raised(lambda: nine_trials(2)).remedy)
+        self.assertIn("a chance of a zero total that is a whole number of units", raised(lambda: nine_trials(2)).remedy)
 
     def test_start(self):
         """A start below a unit cannot be mended by another."""

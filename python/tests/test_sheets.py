@@ -4,14 +4,15 @@ import unittest
 from claimtotals import MOST_BYTES, Job, Refused, Sheet, read_sheet
 
 # The paper's P1.
-TEXT = b"LAW 1 1\nTERM 0 1\nSTART 367879441 367879442\nLAST 3\nSEVERITY 2\nW 1\nW 1\n"
+TEXT = b"LAW 1 1\nTERM 0 1\nSTART 367879441 367879442\nLAST 3\nZERO 0\nSEVERITY 2\nW 1\nW 1\n"
 JOB = Job(1, 1, (0, 0, 0, 0), (1, 0, 0, 0), 367879441, 367879442, 3)
 SHEET = Sheet(JOB, (1, 1))
 
 # A law of order 4, numbers of 10 digits, and as many weights as a sheet may have.
 GREAT_TEXT = (b"LAW 4 9999999999\nTERM -9999999999 1\nTERM 2 -3\nTERM 0 0\nTERM 9999999999 -1\nSTART 0 9999999999\nLAST 9999999999\n"
-              b"SEVERITY 500\n" + b"W 9999999999\n" * 500)
-GREAT = Sheet(Job(4, 9999999999, (-9999999999, 2, 0, 9999999999), (1, -3, 0, -1), 0, 9999999999, 9999999999), (9999999999,) * 500)
+              b"ZERO 9999999999\nSEVERITY 500\n" + b"W 9999999999\n" * 500)
+GREAT = Sheet(Job(4, 9999999999, (-9999999999, 2, 0, 9999999999), (1, -3, 0, -1), 0, 9999999999, 9999999999, 9999999999),
+              (9999999999,) * 500)
 
 
 def refusal(data):
@@ -32,6 +33,7 @@ class Read(unittest.TestCase):
         self.assertEqual((sheet.job.order, sheet.job.divisor, sheet.job.last), (4, 9999999999, 9999999999))
         self.assertEqual((sheet.job.start_low, sheet.job.start_high), (0, 9999999999))
         self.assertEqual((sheet.job.a[1], sheet.job.b[1], len(sheet.weights)), (2, -3, 500))
+        self.assertEqual((sheet.job.zero, read_sheet(TEXT).job.zero), (9999999999, 0))
 
     def test_kinds_of_bytes(self):
         for data in bytearray(TEXT), memoryview(TEXT), memoryview(b"".join(bytes([byte, 0]) for byte in TEXT))[::2]:
@@ -51,13 +53,13 @@ class Read(unittest.TestCase):
     def test_size(self):
         """A sheet of the most bytes is read, and refused for those after its last weight; one more byte is refused at once."""
         self.assertEqual(MOST_BYTES, 16_384)
-        self.assertEqual(refusal(TEXT.ljust(16_384, b"1")), (26, 8, 8, None))
+        self.assertEqual(refusal(TEXT.ljust(16_384, b"1")), (26, 9, 9, None))
         self.assertEqual(refusal(TEXT.ljust(16_385, b"1")), (21, 0, 0, None))
         self.assertEqual(refusal(b""), (21, 0, 0, None))
 
     def test_zero_bytes(self):
         """They end nothing."""
-        self.assertEqual(refusal(TEXT + b"\0"), (26, 8, 8, None))
+        self.assertEqual(refusal(TEXT + b"\0"), (26, 9, 9, None))
         self.assertEqual(refusal(TEXT.replace(b"LAST 3", b"LAST 3\0")), (24, 4, 4, b"3\0"))
         self.assertEqual(refusal(TEXT.replace(b"LAST 3", b"LAST \0")), (24, 4, 4, b"\0"))
         self.assertEqual(refusal(b"\0"), (22, 1, 1, None))
@@ -71,18 +73,25 @@ class Refusals(unittest.TestCase):
         self.assertEqual(refusal(TEXT.replace(old, new)), asked)
 
     def test_missing(self):
-        self.assertEqual(refusal(TEXT[:-1]), (22, 7, 7, None))
-        self.assertEqual(refusal(TEXT[:-4]), (22, 7, 7, None))
+        self.assertEqual(refusal(TEXT[:-1]), (22, 8, 8, None))
+        self.assertEqual(refusal(TEXT[:-4]), (22, 8, 8, None))
+        self.assertEqual(refusal(TEXT[:TEXT.index(b"ZERO")]), (22, 5, 5, None))
         self.assertEqual(refusal(b"LAW 1 1\n"), (22, 2, 2, None))
 
     def test_form(self):
-        self.check(b"2\nW 1\n", b"2\nW  1\n", 23, 6, 6, None)
+        self.check(b"2\nW 1\n", b"2\nW  1\n", 23, 7, 7, None)
+        self.check(b"ZERO 0\n", b"", 23, 5, 5, None)
+        self.check(b"ZERO 0", b"ZERO 0 0", 23, 5, 5, None)
+        self.check(b"ZERO 0", b"ZERO", 23, 5, 5, None)
+        self.check(b"LAST 3\nZERO 0\n", b"ZERO 0\nLAST 3\n", 23, 4, 4, None)
         self.check(b"LAW 1 1", b"LAW 1", 23, 1, 1, None)
         self.check(b"LAST", b"Last", 23, 4, 4, None)
 
     def test_word(self):
         """The paper's P11 and P12 first."""
-        self.check(b"2\nW 1\n", b"2\nW 10n5\n", 24, 6, 6, b"10n5")
+        self.check(b"2\nW 1\n", b"2\nW 10n5\n", 24, 7, 7, b"10n5")
+        self.check(b"ZERO 0", b"ZERO -1", 24, 5, 5, b"-1")
+        self.check(b"ZERO 0", b"ZERO 00", 24, 5, 5, b"00")
         self.check(b"TERM 0 1", b"TERM -0 1", 24, 2, 2, b"-0")
         self.check(b"START 367879441 367879442", b"START 1 ", 24, 3, 3, b"")
         self.check(b"START 367879441 367879442", b"START 3x 4y", 24, 3, 3, b"3x")
@@ -91,12 +100,12 @@ class Refusals(unittest.TestCase):
     def test_limit(self):
         self.check(b"LAW 1 1", b"LAW 5 1", 25, 1, 1, None)
         self.check(b"LAW 1 1", b"LAW 0 1", 25, 1, 1, None)
-        self.check(b"SEVERITY 2", b"SEVERITY 0", 25, 5, 5, None)
-        self.check(b"SEVERITY 2", b"SEVERITY 501", 25, 5, 5, None)
+        self.check(b"SEVERITY 2", b"SEVERITY 0", 25, 6, 6, None)
+        self.check(b"SEVERITY 2", b"SEVERITY 501", 25, 6, 6, None)
 
     def test_excess(self):
-        self.assertEqual(refusal(TEXT + b"W 1\n"), (26, 8, 8, None))
-        self.assertEqual(refusal(TEXT + b"\n"), (26, 8, 8, None))
+        self.assertEqual(refusal(TEXT + b"W 1\n"), (26, 9, 9, None))
+        self.assertEqual(refusal(TEXT + b"\n"), (26, 9, 9, None))
 
 
 class Write(unittest.TestCase):
@@ -106,8 +115,8 @@ class Write(unittest.TestCase):
 
     def test_round_trip(self):
         for order in 1, 2, 3, 4:
-            for weights in (1,), (0, 7, 0), tuple(range(500)):
-                sheet = Sheet(Job.of(7, [(-3, 5), (2, 0), (0, 0), (-1, 1)][:order], (5, 6), 30), weights)
+            for zero, weights in (0, (1,)), (1, (0, 7, 0)), (9999999999, tuple(range(500))):
+                sheet = Sheet(Job.of(7, [(-3, 5), (2, 0), (0, 0), (-1, 1)][:order], (5, 6), 30, zero), weights)
                 with self.subTest(order=order, weights=len(weights)):
                     self.assertEqual(read_sheet(sheet.text()), sheet)
 
@@ -121,6 +130,7 @@ class Write(unittest.TestCase):
             "a long term": JOB._replace(a=(-10_000_000_000, 0, 0, 0)), "a term past the order": JOB._replace(a=(0, 1, 0, 0)),
             "another past the order": JOB._replace(b=(1, 0, 0, -1)), "a negative start": JOB._replace(start_low=-1),
             "a short row": JOB._replace(b=(1,)), "a float": JOB._replace(divisor=1.0),
+            "a long weight of size 0": JOB._replace(zero=10_000_000_000), "a negative one": JOB._replace(zero=-1),
         }
         sheets = [(name, Sheet(job, (1, 1))) for name, job in jobs.items()]
         sheets += [("no weights", Sheet(JOB, ())), ("501 weights", Sheet(JOB, (1,) * 501)), ("too many bytes", Sheet(JOB, (1,) * 5000)),
