@@ -10,8 +10,8 @@ read_job <- function(path) {
     keyword <- vapply(words, `[`, "", 1)
     number <- function(key, place) vapply(words[keyword == key], function(line) as.numeric(line[place]), 0)
     stopifnot(number("LAW", 2) == 1, number("LAW", 3) == 1, number("TERM", 2) == 0)
-    weights <- number("W", 2)
-    list(mean = number("TERM", 3), severity = c(0, weights / sum(weights)), last = number("LAST", 2))
+    weights <- c(number("ZERO", 2), number("W", 2))
+    list(mean = number("TERM", 3), severity = weights / sum(weights), last = number("LAST", 2))
 }
 
 chances <- function(distribution) environment(distribution)$fs

@@ -17,12 +17,14 @@ typedef struct {
 } Row;
 
 typedef struct {
-    uint64_t order, divisor;
+    uint64_t order;
     const int64_t *a, *b;
     Entry start;
     const uint64_t *weights;
     size_t m;
     uint64_t total;
+    // D W - A w(0), the divisor of row 0 at total 1
+    int64_t thinned;
 } Job;
 
 static int64_t floor_div(int64_t n, int64_t d) { return n < 0 ? -1 - (-1 - n) / d : n / d; }
@@ -50,7 +52,7 @@ static Entry entry_at(const Job *job, const Row *rows, size_t j, size_t x) {
     Entry sums = none;
     for (size_t i = 0; i < job->order; i++)
         sums = add_term(sums, job->a[i] * (int64_t)x, job->b[i], x, job->weights, job->m, rows[i].low, rows[i].high, rows[i].bound);
-    return divided(sums, (int64_t)(job->divisor * x * job->total));
+    return divided(sums, job->thinned * (int64_t)x);
 }
 
 // fills the rows total by total; 0, or the number of a refusal, whose place is the total
@@ -82,9 +84,10 @@ static size_t wrong_term(uint64_t order, const int64_t *a, const int64_t *b) {
     return 0;
 }
 
-// the sum of the weights, and 0 where it is above 1,000
-static uint64_t sum_of(const uint64_t *weights, size_t m) {
-    uint64_t total = 0;
+// the sum of the weights with that of size 0, and 0 where it is above 1,000
+static uint64_t sum_of(uint64_t zero, const uint64_t *weights, size_t m) {
+    uint64_t total = zero;
+    if (1000 < zero) return 0;
     for (size_t i = 0; i < m; i++) {
         if (1000 - total < weights[i]) return 0;
         total += weights[i];
@@ -93,22 +96,27 @@ static uint64_t sum_of(const uint64_t *weights, size_t m) {
 }
 
 uint64_t CURVE(uint64_t order, uint64_t divisor, const int64_t a[4], const int64_t b[4], uint64_t start_low, uint64_t start_high,
-               uint64_t last, const uint64_t *weights, size_t weights_length, int64_t *low, size_t low_length, int64_t *high,
-               size_t high_length, int64_t *bound, size_t bound_length, int64_t *work, size_t work_length, size_t *place) {
+               uint64_t last, uint64_t zero, const uint64_t *weights, size_t weights_length, int64_t *low, size_t low_length,
+               int64_t *high, size_t high_length, int64_t *bound, size_t bound_length, int64_t *work, size_t work_length,
+               size_t *place) {
     *place = 0;
     if (order < 1 || 4 < order) return 1;
     if (divisor < 1 || 1000 < divisor) return 2;
     if ((*place = wrong_term(order, a, b)) != 0) return 3;
     if (start_high < start_low || start_high < 1 || (uint64_t)UNIT < start_high) return 4;
     if (weights_length < 1 || 500 < weights_length) return 5;
-    uint64_t total = sum_of(weights, weights_length);
+    uint64_t total = sum_of(zero, weights, weights_length);
     if (total == 0) return 6;
+    if (zero != 0 && 1 < order) return 11;
+    int64_t thinned = (int64_t)(divisor * total) - a[0] * (int64_t)zero;
+    if (thinned <= 0) return 12;
+    if (total == zero) return 13;
     if (500 < last) return 7;
     size_t places = last + 1;
     if (low_length < places || high_length < places || bound_length < places || work_length < 9 * places) return 8;
 
     const Entry start = {(int64_t)start_low, (int64_t)start_high, (int64_t)(start_high - start_low)};
-    const Job job = {order, divisor, a, b, start, weights, weights_length, total};
+    const Job job = {order, a, b, start, weights, weights_length, total, thinned};
     Row rows[4] = {{low, high, bound}};
     for (size_t j = 1; j < 4; j++) {
         int64_t *columns = work + 3 * (j - 1) * places;

@@ -12,7 +12,7 @@
 #include "timing.h"
 #include "tuned.h"
 
-enum { MOST_BYTES = 16384, REFUSALS = 10, WEIGHTS = CLAIMTOTALS_WEIGHTS };
+enum { MOST_BYTES = 16384, REFUSALS = 13, WEIGHTS = CLAIMTOTALS_WEIGHTS };
 
 // the versions that are compared
 enum { PROVED, PLAIN, TUNED, LEAN, COMPARED };
@@ -21,7 +21,7 @@ enum { PROVED, PLAIN, TUNED, LEAN, COMPARED };
 typedef struct {
     uint64_t order, divisor;
     int64_t a[4], b[4];
-    uint64_t start_low, start_high, last, weights[WEIGHTS + 1];
+    uint64_t start_low, start_high, last, zero, weights[WEIGHTS + 1];
     size_t count, low_length, high_length, bound_length, work_length;
 } Job;
 
@@ -36,9 +36,9 @@ static Job job;
 static Answer answers[COMPARED];
 
 static inline void ask(__typeof__(claimtotals_curve) *curve, Answer *answer) {
-    answer->number = curve(job.order, job.divisor, job.a, job.b, job.start_low, job.start_high, job.last, job.weights, job.count,
-                           answer->low, job.low_length, answer->high, job.high_length, answer->bound, job.bound_length, answer->work,
-                           job.work_length, &answer->place);
+    answer->number = curve(job.order, job.divisor, job.a, job.b, job.start_low, job.start_high, job.last, job.zero, job.weights,
+                           job.count, answer->low, job.low_length, answer->high, job.high_length, answer->bound, job.bound_length,
+                           answer->work, job.work_length, &answer->place);
 }
 
 static void call_proved(void) { ask(claimtotals_curve, &answers[PROVED]); }
@@ -132,16 +132,24 @@ static void both_signs(uint64_t order, int64_t a, int64_t b) {
     job.divisor = 60 * order;
 }
 
-// Laws whose factors change sign in the middle of a pass, in both directions and at every place up to MOST_CUT from either end. Every
-// fourth weight is 0. The start is wide, so that a low in the place of a high shows.
-static void compare_signs(void) {
-    enum { MOST_CUT = 450 };
-    static const int64_t numbers[] = {-30, -29, -7, -2, -1, 0, 1, 2, 7, 29, 30};
-    const size_t count = sizeof numbers / sizeof *numbers;
+// the terms of such laws
+static const int64_t numbers[] = {-30, -29, -7, -2, -1, 0, 1, 2, 7, 29, 30};
+
+enum { NUMBERS = sizeof numbers / sizeof *numbers };
+
+// every fourth weight is 0; the start is wide, so that a low in the place of a high shows
+static void wide_start(void) {
     job.start_low = 100000000;
     job.start_high = 400000000;
     job.last = CLAIMTOTALS_TOTALS - 1;
     for (size_t y = 1; y <= WEIGHTS; y++) job.weights[y - 1] = y % 4;
+}
+
+// Laws whose factors change sign in the middle of a pass, in both directions and at every place up to MOST_CUT from either end.
+static void compare_signs(void) {
+    enum { MOST_CUT = 450 };
+    const size_t count = NUMBERS;
+    wide_start();
     for (size_t i = 0; i < count * count; i++) {
         for (uint64_t order = 1; order <= 4; order++) {
             both_signs(order, numbers[i / count], numbers[i % count]);
@@ -198,6 +206,28 @@ static void compare_undivided(void) {
     }
 }
 
+// Claims of size 0. Laws of order 1 with terms of both signs, where the weights come to 139, and w(0) to what is left to 1,000 at most. And
+// one whose divisor is 1 at total 1, as D W - A w(0) is.
+static void compare_zeros(void) {
+    static const uint64_t zeros[] = {1, 2, 99, 861};
+    wide_start();
+    job.count = 93;
+    for (size_t i = 0; i < NUMBERS * NUMBERS; i++) {
+        both_signs(1, numbers[i / NUMBERS], numbers[i % NUMBERS]);
+        for (size_t z = 0; z < sizeof zeros / sizeof *zeros; z++) {
+            job.zero = zeros[z];
+            compare_accepted();
+        }
+    }
+    one_term(2, -1);
+    job.zero = 1;
+    job.weights[0] = 2;
+    job.start_low = job.start_high = 4000001;
+    job.last = 2;
+    compare_accepted();
+    if (answers[PROVED].bound[1] != 0 || answers[PROVED].bound[2] == 0) fail("the bounds after a divisor of 1 are others");
+}
+
 // compares on the sheet's job with a change
 #define WITH(change)           \
     do {                       \
@@ -237,6 +267,12 @@ static void compare_all(void) {
     WITH((one_term(0, 2), job.count = 2, job.weights[1] = 1, job.start_low = 0, job.start_high = unit));
     WITH(one_term(-1, 0));
     WITH(one_term(-2, 0));
+    // of an order above 1, with no divisor, and with no claims but those of size 0; and as many of these as W allows, and more
+    WITH((one_term(0, 1), job.order = 2, job.zero = 1));
+    WITH((one_term(2, 0), job.zero = job.weights[0]));
+    WITH((one_term(0, 1), job.zero = 1, job.weights[0] = 0));
+    for (uint64_t zero = 0; zero <= 1001; zero++) WITH((one_term(1, 0), job.zero = zero));
+    WITH((one_term(1, 0), job.zero = UINT64_MAX));
     for (size_t number = 0; number <= REFUSALS; number++)
         if (!met[number]) fail("a refusal was not met");
     job = given;
@@ -245,6 +281,8 @@ static void compare_all(void) {
     compare_largest();
     job = given;
     compare_undivided();
+    job = given;
+    compare_zeros();
     job = given;
 }
 
@@ -255,7 +293,7 @@ static void read_job(const char *path) {
     size_t length = fread(sheet, 1, sizeof sheet, file), line;
     fclose(file);
     if (claimtotals_read_sheet(sheet, length, job.weights, WEIGHTS, &line, &job.order, &job.divisor, job.a, job.b, &job.start_low,
-                               &job.start_high, &job.last, &job.count) != 0)
+                               &job.start_high, &job.last, &job.zero, &job.count) != 0)
         fail("the sheet is refused");
     job.low_length = job.high_length = job.bound_length = CLAIMTOTALS_TOTALS;
     job.work_length = CLAIMTOTALS_WORK;

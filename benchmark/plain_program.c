@@ -72,14 +72,14 @@ static char *put_table(char *at, size_t totals, const int64_t *low, const int64_
 
 // the text of a sheet, put at `at`
 static char *put_report(char *at, const uint8_t *sheet, size_t length) {
-    uint64_t order, divisor, start_low, start_high, last, weights[MOST_WEIGHTS];
+    uint64_t order, divisor, start_low, start_high, last, zero, weights[MOST_WEIGHTS];
     int64_t a[4], b[4], low[MOST_TOTALS], high[MOST_TOTALS], bound[MOST_TOTALS], work[9 * MOST_TOTALS];
     size_t line, count, place;
     uint64_t number = plain_read_sheet(sheet, length, weights, MOST_WEIGHTS, &line, &order, &divisor, a, b, &start_low, &start_high, &last,
-                                       &count);
+                                       &zero, &count);
     if (number != 0) return put_refusal(at, number, line);
-    number = plain_curve(order, divisor, a, b, start_low, start_high, last, weights, count, low, MOST_TOTALS, high, MOST_TOTALS, bound,
-                         MOST_TOTALS, work, 9 * MOST_TOTALS, &place);
+    number = plain_curve(order, divisor, a, b, start_low, start_high, last, zero, weights, count, low, MOST_TOTALS, high, MOST_TOTALS,
+                         bound, MOST_TOTALS, work, 9 * MOST_TOTALS, &place);
     if (number != 0) return put_refusal(at, number, place);
     return put_table(at, last + 1, low, high, bound);
 }

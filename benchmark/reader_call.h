@@ -18,7 +18,7 @@ typedef struct {
 typedef struct {
     uint64_t order, divisor;
     int64_t a[4], b[4];
-    uint64_t low, high, last;
+    uint64_t low, high, last, zero;
     size_t count;
 } Sheet;
 
@@ -81,6 +81,8 @@ static uint64_t read_lines(Cursor *c, Sheet *s, uint64_t *row, size_t places) {
     s->high = (uint64_t)n[1];
     if ((number = read_line(c, "LAST", 1, false, n)) != 0) return number;
     s->last = (uint64_t)n[0];
+    if ((number = read_line(c, "ZERO", 1, false, n)) != 0) return number;
+    s->zero = (uint64_t)n[0];
     if ((number = read_line(c, "SEVERITY", 1, false, n)) != 0) return number;
     if (n[0] < 1 || MOST_WEIGHTS < n[0]) return 25;
     s->count = (size_t)n[0];
@@ -99,7 +101,7 @@ static uint64_t read_lines(Cursor *c, Sheet *s, uint64_t *row, size_t places) {
 
 uint64_t READ_SHEET(const uint8_t *sheet, size_t sheet_length, uint64_t *row, size_t row_length, size_t *line, uint64_t *order,
                     uint64_t *divisor, int64_t a[4], int64_t b[4], uint64_t *start_low, uint64_t *start_high, uint64_t *last,
-                    size_t *count) {
+                    uint64_t *zero, size_t *count) {
     const Sheet none = {0};
     Sheet s = none;
     Cursor c = {sheet, sheet + sheet_length, 0};
@@ -113,6 +115,7 @@ uint64_t READ_SHEET(const uint8_t *sheet, size_t sheet_length, uint64_t *row, si
     *start_low = s.low;
     *start_high = s.high;
     *last = s.last;
+    *zero = s.zero;
     *count = s.count;
     return number;
 }

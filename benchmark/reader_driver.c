@@ -18,7 +18,7 @@ enum { PROVED, PLAIN, TUNED, VERSIONS };
 typedef struct {
     uint64_t number;
     size_t line, count;
-    uint64_t order, divisor, start_low, start_high, last;
+    uint64_t order, divisor, start_low, start_high, last, zero;
     int64_t a[4], b[4];
     uint64_t row[PLACES];
 } Reading;
@@ -32,7 +32,7 @@ static Reading readings[VERSIONS];
 
 static inline void ask(__typeof__(claimtotals_read_sheet) *read, Reading *r) {
     r->number = read((const uint8_t *)sheet, length, r->row, places, &r->line, &r->order, &r->divisor, r->a, r->b, &r->start_low,
-                     &r->start_high, &r->last, &r->count);
+                     &r->start_high, &r->last, &r->zero, &r->count);
 }
 
 static void call_proved(void) { ask(claimtotals_read_sheet, &readings[PROVED]); }
@@ -46,7 +46,7 @@ static const Version versions[VERSIONS] = {{"proved", call_proved}, {"plain", ca
 static void make_good(int order) {
     char *p = good + sprintf(good, "LAW %d 1000\n", order);
     for (int i = 0; i < order; i++) p += sprintf(p, "TERM %d %d\n", 30 - 20 * i, i - 10);
-    p += sprintf(p, "START 999999999 1000000000\nLAST 500\nSEVERITY %d\n", WEIGHTS);
+    p += sprintf(p, "START 999999999 1000000000\nLAST 500\nZERO 0\nSEVERITY %d\n", WEIGHTS);
     // some weights of 4 digits, the others below 10, 100 or 1000, in mixed order
     static const uint32_t limits[] = {10, 100, 1000};
     uint32_t drawn = 1;

@@ -106,19 +106,43 @@ TABLES = {
 }
 
 
+# Jobs with claims of size 0: w(0), the other weights, and the share of the claims that are zero. Each law comes with that of the claims
+# that are not, whose chance of no claims is the chance that the total is zero.
+ZERO, OTHERS = 2, [1, 1]
+SHARE = Fraction(ZERO, ZERO + sum(OTHERS))
+
+
+def with_zeros(law_of, number, chance):
+    """A binomial law, or a negative binomial one."""
+    kept = 1 - SHARE if law_of is binomial else (1 - SHARE) / (1 - chance * SHARE)
+    return law_of(number, chance), law_of(number, chance * kept)
+
+
+PAIRS = [
+    *((poisson(mean), poisson(mean * (1 - SHARE))) for mean in (Fraction(7, 3), Fraction(10), Fraction(40))),
+    with_zeros(negative_binomial, 3, THIRD),
+    with_zeros(negative_binomial, Fraction(5, 2), Fraction(2, 5)),
+    with_zeros(negative_binomial, 1, Fraction(9, 10)),
+    with_zeros(binomial, 12, TENTH),
+    with_zeros(binomial, 6, Fraction(8, 9)),
+    with_zeros(binomial, 9, Fraction(9, 10)),
+]
+
+
 def start(law):
     """U times the chance of no claims, rounded down and up."""
     units = UNIT * law.none
     return math.floor(units), math.ceil(units)
 
 
-def sheet(law, weights, last):
+def sheet(law, weights, last, zero=0, others=None):
+    """With w(0) and the law of the claims that are not zero, where it is not 0."""
     divisor = math.lcm(law.a.denominator, law.b.denominator)
-    lines = [("LAW", 1, divisor), ("TERM", int(law.a * divisor), int(law.b * divisor)), ("START", *start(law)), ("LAST", last),
-             ("SEVERITY", len(weights)), *(("W", w) for w in weights)]
+    lines = [("LAW", 1, divisor), ("TERM", int(law.a * divisor), int(law.b * divisor)), ("START", *start(others or law)), ("LAST", last),
+             ("ZERO", zero), ("SEVERITY", len(weights)), *(("W", w) for w in weights)]
     return "".join(" ".join(map(str, line)) + "\n" for line in lines)
 
 
-def severity(weights):
+def severity(weights, zero=0):
     """As an argument of actuar's aggregateDist; its probabilities begin at size 0."""
-    return f"model.sev = c(0, {', '.join(map(str, weights))}) / {sum(weights)}"
+    return f"model.sev = c({zero}, {', '.join(map(str, weights))}) / {zero + sum(weights)}"

@@ -29,15 +29,15 @@ def written(sheet):
     return subprocess.run([PROGRAM], input=sheet, capture_output=True, check=True, text=True).stdout
 
 
-def program(law, table, weights):
-    """Refused by 9 or 10, the sheet is given again with a last total just before, as README.md says."""
+def program(law, table, weights, **zeros):
+    """Refused by 9 or 10, the sheet is given again with a last total just before, as README.md says. `zeros` as jobs.sheet takes them."""
     refusal, last = None, LAST_TOTAL
-    sheet = jobs.sheet(law, weights, last)
+    sheet = jobs.sheet(law, weights, last, **zeros)
     text = written(sheet)
     if text.startswith(("REFUSED 9 ", "REFUSED 10 ")):
         refusal = tuple(map(int, text.split()[1:]))
         last = refusal[1] - 1
-        sheet = jobs.sheet(law, weights, last)
+        sheet = jobs.sheet(law, weights, last, **zeros)
         text = written(sheet)
     keep(sheet, f"{law.name} {table}")
     rows = [tuple(map(int, line.split()[1:3])) for line in text.splitlines()[1:]]
@@ -54,9 +54,9 @@ class Answer(NamedTuple):
         return [float(chance) for chance in self.said.get(word, "").split()]
 
 
-def call(law, weights, last=LAST_TOTAL, options=""):
+def call(law, weights, last=LAST_TOTAL, options="", zero=0):
     """A job for actuar.R."""
-    severity = jobs.severity(weights)
+    severity = jobs.severity(weights, zero)
     by_convolutions = f"model.freq = {law.counts}, {severity}" if law.counts else ""
     return f"{last}\t{law.arguments}, {severity}{options}\t{by_convolutions}\n"
 

@@ -26,6 +26,12 @@ def quantile(chances):
     return next((total for total, so_far in enumerate(accumulate(chances)) if so_far >= LEVEL), None)
 
 
+def not_enclosed(ours, exact):
+    """Totals at which the exact amount is not from low to high, as far as SHORT lets it be known."""
+    return [total for total, (low, high) in enumerate(ours.rows)
+            if UNIT * (exact[total] + amounts.SHORT) < low or high < UNIT * exact[total]]
+
+
 class Result(NamedTuple):
     """`chances` are those of actuar's recursion that is kept from stopping; where others of actuar's are asked about, they are given."""
     law: jobs.Law
@@ -60,9 +66,7 @@ class Result(NamedTuple):
                 yield Outside(total, low, high, max(low - units, units - high))
 
     def not_enclosed(self):
-        """Totals at which the exact amount is not from low to high, as far as SHORT lets it be known."""
-        return [total for total, (low, high) in enumerate(self.ours.rows)
-                if UNIT * (self.exact[total] + amounts.SHORT) < low or high < UNIT * self.exact[total]]
+        return not_enclosed(self.ours, self.exact)
 
     def part_of_limit(self):
         """The greatest of actuar's errors over what rounding can do; above 1, rounding does not explain it."""
@@ -71,6 +75,24 @@ class Result(NamedTuple):
 
     def refused_totals(self):
         return range(len(self.ours.rows), MOST_TOTALS)
+
+
+class ZerosResult(NamedTuple):
+    """The same where a share of the claims is zero: the law, that of the claims that are not, the program's lows and highs, actuar's
+    chances, and the exact ones."""
+    law: jobs.Law
+    others: jobs.Law
+    ours: Table
+    chances: list
+    exact: list
+
+    def outside(self):
+        """Totals at which actuar's chance is not from low to high."""
+        return [total for total, (low, high) in enumerate(self.ours.rows) if not low <= UNIT * Fraction(self.chances[total]) <= high]
+
+    def error(self):
+        """Actuar's greatest, in units."""
+        return max(abs(UNIT * (Fraction(chance) - exact)) for chance, exact in zip(self.chances, self.exact))
 
 
 def result(law, table, convolutions, ours, theirs):

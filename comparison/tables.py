@@ -163,6 +163,14 @@ def small_starts(found):
                   "actuar says"), rows)
 
 
+def zeros(found):
+    """Jobs with claims of size 0."""
+    rows = [(result.law.name, result.others.name, "{} {}".format(*jobs.start(result.others)), len(result.ours.rows), len(result.outside()),
+             about(result.error())) for result in found]
+    return table(("law", "of the claims that are not zero", "START", "totals compared", "of them outside",
+                  "actuar's greatest error, units"), rows)
+
+
 def refusals(found):
     """Number and total of each refusal, and actuar's greatest error from there on, in units."""
     def cell(result):

@@ -55,11 +55,11 @@ static void give_rows(const struct row *rows, size_t count) {
 static void call_curve(void) {
     uint64_t order = number(), divisor = number();
     struct row a = take_row(8), b = take_row(8);
-    uint64_t start_low = number(), start_high = number(), last = number();
+    uint64_t start_low = number(), start_high = number(), last = number(), zero = number();
     struct row weights = take_row(8), low = take_row(8), high = take_row(8), bound = take_row(8), work = take_row(8), place = take_row(8);
-    uint64_t answer = claimtotals_curve(order, divisor, a.block, b.block, start_low, start_high, last, weights.block, weights.places,
-                                        low.block, low.places, high.block, high.places, bound.block, bound.places, work.block, work.places,
-                                        place.block);
+    uint64_t answer = claimtotals_curve(order, divisor, a.block, b.block, start_low, start_high, last, zero, weights.block,
+                                        weights.places, low.block, low.places, high.block, high.places, bound.block, bound.places,
+                                        work.block, work.places, place.block);
     give(&answer, sizeof answer);
     struct row rows[] = {a, b, weights, low, high, bound, work, place};
     give_rows(rows, sizeof rows / sizeof *rows);
@@ -67,11 +67,12 @@ static void call_curve(void) {
 
 static void call_read_sheet(void) {
     struct row sheet = take_row(1), row = take_row(8), line = take_row(8), order = take_row(8), divisor = take_row(8), a = take_row(8);
-    struct row b = take_row(8), start_low = take_row(8), start_high = take_row(8), last = take_row(8), count = take_row(8);
+    struct row b = take_row(8), start_low = take_row(8), start_high = take_row(8), last = take_row(8), zero = take_row(8);
+    struct row count = take_row(8);
     uint64_t answer = claimtotals_read_sheet(sheet.block, sheet.places, row.block, row.places, line.block, order.block, divisor.block,
-                                             a.block, b.block, start_low.block, start_high.block, last.block, count.block);
+                                             a.block, b.block, start_low.block, start_high.block, last.block, zero.block, count.block);
     give(&answer, sizeof answer);
-    struct row rows[] = {sheet, row, line, order, divisor, a, b, start_low, start_high, last, count};
+    struct row rows[] = {sheet, row, line, order, divisor, a, b, start_low, start_high, last, zero, count};
     give_rows(rows, sizeof rows / sizeof *rows);
 }
 

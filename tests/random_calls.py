@@ -69,11 +69,11 @@ def number_row(r, kind, *after):
 # ---- jobs for the curve call
 
 def good_job(r):
-    make = r.choices((random_sheets.named, random_sheets.free, random_sheets.at_edge, random_sheets.wide), (50, 25, 24, 1))[0]
-    parts = make(r)
+    makers = {random_sheets.named: 46, random_sheets.free: 24, random_sheets.at_edge: 20, random_sheets.thin: 9, random_sheets.wide: 1}
+    parts = r.choices(list(makers), list(makers.values()))[0](r)
     none = [0] * (MOST_ORDER - len(parts.terms))
     return Job(len(parts.terms), parts.divisor, [a for a, _ in parts.terms] + none, [b for _, b in parts.terms] + none, *parts.start,
-               parts.weights, parts.last)
+               parts.weights, parts.last, parts.zero)
 
 
 def other_order(r, job):
@@ -114,6 +114,29 @@ def other_sum(r, job):
         job.weights = [r.choice((0, 0, 2 ** 64 - 1))] * len(job.weights)
 
 
+def about_thinned(r, job):
+    """About the w(0) from which on D W - A w(0) is zero or less: D times the sum of the others over A - D. Where A is D or below there is
+    none."""
+    excess = job.a[0] - job.divisor
+    return max(0, job.divisor * sum(job.weights) // excess + r.choice((-1, 0, 1))) if excess > 0 else 0
+
+
+def other_zero(r, job):
+    """At the limits of the refusals that it can bring about, and such that 64 bits or 32 would take the sum for a good one."""
+    others = sum(job.weights)
+    aim = r.choice((*near(MOST_SUM), 2 ** 32 + 1, 2 ** 64, 2 ** 64 + 1, 2 ** 64 + 5))
+    job.zero = in_64_bits(r.choice((0, 1, 1, r.randint(1, 9), max(0, aim - others), max(0, aim - others), about_thinned(r, job),
+                                    about_thinned(r, job), MOST_SUM, r.choice(HUGE))))
+    if r.random() < 0.3:
+        job.a[0] = r.choice((*near(MOST_TERM), *(in_signed_64_bits(job.divisor + more) for more in (-1, 0, 1))))
+
+
+def no_others(r, job):
+    """All weights but w(0) are 0."""
+    job.weights = [0] * len(job.weights)
+    job.zero = r.choice((0, 1, r.randint(1, MOST_SUM), *near(MOST_SUM), 2 ** 64 - 1))
+
+
 def other_last(r, job):
     """A great last total is computed for small tables only, as the calculator takes long."""
     most = LAST_TOTAL + 2 if len(job.weights) < 20 else 12
@@ -121,7 +144,7 @@ def other_last(r, job):
                          LAST_TOTAL + 2, r.choice(HUGE)))
 
 
-CHANGES = (other_order, other_divisor, other_term, other_start, other_count, other_sum, other_last)
+CHANGES = (other_order, other_divisor, other_term, other_start, other_count, other_sum, other_zero, other_zero, no_others, other_last)
 
 
 def row_lengths(r, last):
@@ -145,6 +168,11 @@ def random_job(r):
     return job
 
 
+def curve_outcome(number, zero):
+    """Those that are accepted with claims of size 0 are counted apart."""
+    return "0 with w(0)" if number == 0 and zero else number
+
+
 def curve_call(r):
     job = random_job(r)
     before = [marks(r, SIGNED, length) for length in row_lengths(r, job.last)]
@@ -154,9 +182,10 @@ def curve_call(r):
                               for held, holds in zip(before, (lent.low, lent.high, lent.bound, lent.work)))
     return Call("claimtotals_curve", [
         ("order", job.order), ("divisor", job.divisor), ("a", read_only(SIGNED, job.a, False)), ("b", read_only(SIGNED, job.b, False)),
-        ("start_low", job.low_start), ("start_high", job.high_start), ("last", job.last), ("weights", read_only(UNSIGNED, job.weights)),
-        ("low", low), ("high", high), ("bound", bound), ("work", work), ("place", number_row(r, UNSIGNED, place)),
-    ], number, number)
+        ("start_low", job.low_start), ("start_high", job.high_start), ("last", job.last), ("zero", job.zero),
+        ("weights", read_only(UNSIGNED, job.weights)), ("low", low), ("high", high), ("bound", bound), ("work", work),
+        ("place", number_row(r, UNSIGNED, place)),
+    ], number, curve_outcome(number, job.zero))
 
 
 # ---- sheets for the reader
@@ -177,10 +206,10 @@ def reader_call(r):
     before = marks(r, UNSIGNED, places)
     after = job.weights + before[len(job.weights):]
     numbers = {"line": read.line, "order": job.order, "divisor": job.divisor, "start_low": job.low_start, "start_high": job.high_start,
-               "last": job.last, "count": len(job.weights)}
+               "last": job.last, "zero": job.zero, "count": len(job.weights)}
     lent = {name: number_row(r, UNSIGNED, number) for name, number in numbers.items()}
     lent["a"], lent["b"] = number_row(r, SIGNED, *job.a), number_row(r, SIGNED, *job.b)
-    order = ("line", "order", "divisor", "a", "b", "start_low", "start_high", "last", "count")
+    order = ("line", "order", "divisor", "a", "b", "start_low", "start_high", "last", "zero", "count")
     return Call("claimtotals_read_sheet", [
         ("sheet", read_only(BYTE, sheet)), ("row", Row(UNSIGNED, packed(UNSIGNED, before), packed(UNSIGNED, after), True)),
         *((name, lent[name]) for name in order),
@@ -511,7 +540,7 @@ def numbered(seed, index):
 
 # What each call can be answered, 0 for an acceptance.
 CAN_ARISE = {
-    "claimtotals_curve": [0, 1, 2, 3, 4, 5, 6, 7, 8, 9, 10],
+    "claimtotals_curve": [0, "0 with w(0)", 1, 2, 3, 4, 5, 6, 11, 12, 13, 7, 8, 9, 10],
     "claimtotals_read_sheet": [0, 21, 22, 23, 24, 25, 26, 27],
     "claimtotals_faulty_word": ["none", "word", "empty word"],
     "claimtotals_sure": [0, 31, 32, 33, 34],

@@ -2,6 +2,7 @@
 takes its chances from `r`, a random.Random."""
 import math
 import re
+from collections.abc import Callable
 from dataclasses import dataclass
 from decimal import Decimal
 from fractions import Fraction
@@ -14,46 +15,52 @@ GREATEST_NUMBER = 9_999_999_999
 
 @dataclass
 class Parts:
-    """What a good sheet says: D, the terms as pairs, the pair s and t, X and the weights. k and m are the numbers of terms and weights."""
+    """What a good sheet says: D, the terms as pairs, the pair s and t, X, w(0) and the weights. k and m are the numbers of terms and
+    weights."""
     divisor: int
     terms: list
     start: tuple
     last: int
+    zero: int
     weights: list
 
     def text(self):
         lines = [("LAW", len(self.terms), self.divisor), *(("TERM", a, b) for a, b in self.terms), ("START", *self.start),
-                 ("LAST", self.last), ("SEVERITY", len(self.weights)), *(("W", w) for w in self.weights)]
+                 ("LAST", self.last), ("ZERO", self.zero), ("SEVERITY", len(self.weights)), *(("W", w) for w in self.weights)]
         return "".join(" ".join(map(str, line)) + "\n" for line in lines).encode()
 
 
 # ---- named laws
 
 class Law(NamedTuple):
-    """A law of order 1 by its fractions a and b, and its chance of no claims."""
+    """A law of order 1 by its fractions a and b, and the chance that the total is zero, by the share of claims that are."""
     a: Fraction
     b: Fraction
-    none: Fraction
+    nothing: Callable
 
 
 def a_chance(r):
     return r.choice((Fraction(1, r.randint(2, 6)), Fraction(r.randint(1, 9), 10)))
 
 
+def e_to(power):
+    return Fraction((Decimal(power.numerator) / power.denominator).exp())
+
+
 def poisson(r):
     mean = Fraction(r.randint(1, 40), r.choice((1, 2, 4, 10)))
-    return Law(Fraction(0), mean, Fraction((Decimal(-mean.numerator) / mean.denominator).exp()))
+    return Law(Fraction(0), mean, lambda share: e_to(-mean * (1 - share)))
 
 
 def binomial(r):
     trials, chance = r.randint(1, 12), a_chance(r)
     odds = chance / (1 - chance)
-    return Law(-odds, (trials + 1) * odds, (1 - chance) ** trials)
+    return Law(-odds, (trials + 1) * odds, lambda share: (1 - chance * (1 - share)) ** trials)
 
 
 def negative_binomial(r):
     shape, chance = r.randint(1, 6), a_chance(r)
-    return Law(chance, (shape - 1) * chance, (1 - chance) ** shape)
+    return Law(chance, (shape - 1) * chance, lambda share: ((1 - chance) / (1 - chance * share)) ** shape)
 
 
 def multiply(first, second):
@@ -77,22 +84,22 @@ def together(laws):
     return list(zip(a, (n - i * a_i for i, (n, a_i) in enumerate(zip(above, a), 1))))
 
 
-def named_law(r):
-    """D, terms and start of one named law or some together; the start is rounded down and up."""
-    laws = [r.choice((poisson, binomial, negative_binomial))(r) for _ in range(r.choice((1, 1, 1, 2, 2, 3, 4)))]
+def named_law(r, share):
+    """D, terms and start of one named law or, where no claim is zero, of some together; the start is rounded down and up."""
+    laws = [r.choice((poisson, binomial, negative_binomial))(r) for _ in range(1 if share else r.choice((1, 1, 1, 2, 2, 3, 4)))]
     fractions = together(laws)
     divisor = math.lcm(*(f.denominator for pair in fractions for f in pair)) * r.choice((1, 1, 1, 2, 3))
-    start = UNIT * math.prod(law.none for law in laws)
+    start = UNIT * math.prod(law.nothing(share) for law in laws)
     terms = [(int(a * divisor), int(b * divisor)) for a, b in fractions]
     return divisor, terms, (math.floor(start), math.ceil(start))
 
 
 # ---- good sheets
 
-def free_law(r):
-    """D, terms and start of no known law."""
+def free_law(r, share):
+    """D, terms and start of no known law, of order 1 where a share of the claims is zero."""
     size = r.choice((1, 3, 30, 300, MOST_TERM))
-    terms = [(r.randint(-size, size), r.randint(-size, size)) for _ in range(r.randint(1, MOST_ORDER))]
+    terms = [(r.randint(-size, size), r.randint(-size, size)) for _ in range(1 if share else r.randint(1, MOST_ORDER))]
     low = r.randint(0, r.choice((3, 1000, UNIT)))
     return r.choice((1, 2, 7, 100, MOST_DIVISOR)), terms, (low, min(UNIT, low + r.choice((0, 1, 1, 5, UNIT // 2))))
 
@@ -105,6 +112,12 @@ def table(r, count):
     return weights
 
 
+def zeros(r, weights):
+    """w(0) with which the sum is good: mostly 0, else small, or as great as can be."""
+    rest = MOST_SUM - sum(weights)
+    return r.choice((0, 0, 0, 0, 0, min(1, rest), min(rest, r.randint(1, 9)), r.randint(0, rest), rest))
+
+
 def sizes(r):
     """m and X: small, now and then large, as large ones take the calculator long."""
     if r.random() < 0.015:
@@ -114,9 +127,11 @@ def sizes(r):
 
 
 def plain(r, law):
-    divisor, terms, start = law(r)
     count, last = sizes(r)
-    return Parts(divisor, terms, start, last, table(r, count))
+    weights = table(r, count)
+    zero = zeros(r, weights)
+    divisor, terms, start = law(r, Fraction(zero, zero + sum(weights)))
+    return Parts(divisor, terms, start, last, zero, weights)
 
 
 def named(r):
@@ -137,7 +152,18 @@ def at_edge(r):
     near = r.randint(-1, 1)
     high = min(UNIT, 2 * UNIT // factor + near)
     start = r.choice(((high, high), (high - 1, high), (0, min(UNIT, UNIT // factor + near))))
-    return Parts(1, terms, start, r.randint(0, 6), [r.choice((1, MOST_SUM))])
+    return Parts(1, terms, start, r.randint(0, 6), 0, [r.choice((1, MOST_SUM))])
+
+
+def thin(r):
+    """D W - A w(0) is zero, or next to it: where it is 1 nothing is rounded at total 1. A small start lets the amounts grow for some
+    totals."""
+    zero, a = r.randint(1, 20), r.randint(2, 40)
+    others = max(0, zero * (a - 1) + r.choice((-1, 0, 1, 1, 1, 2, 3)))
+    first = r.choice((0, others, r.randint(0, others)))
+    low = r.choice((0, 1, 400, r.randint(1, UNIT // 1000)))
+    return Parts(1, [(a, r.choice((-a, 1 - a, -2 * a, r.randint(-MOST_TERM, MOST_TERM))))], (low, low + r.choice((0, 1))),
+                 r.randint(0, 12), zero, [first, others - first])
 
 
 def wide(r):
@@ -145,7 +171,7 @@ def wide(r):
     size = r.choice((100, 125, 166, 250, MOST_WEIGHTS))
     terms = [(r.choice((-MOST_TERM, MOST_TERM)), r.choice((-MOST_TERM, MOST_TERM))) for _ in range(r.randint(1, MOST_ORDER))]
     start = r.choice(((UNIT, UNIT), (UNIT - 1, UNIT), (UNIT // 2, UNIT)))
-    return Parts(r.choice((MOST_DIVISOR - 1, MOST_DIVISOR)), terms, start, LAST_TOTAL, [0] * (size - 1) + [MOST_SUM])
+    return Parts(r.choice((MOST_DIVISOR - 1, MOST_DIVISOR)), terms, start, LAST_TOTAL, 0, [0] * (size - 1) + [MOST_SUM])
 
 
 def near(limit):
@@ -171,12 +197,22 @@ def limit_start(r, parts):
 
 def limit_sum(r, parts):
     y = r.randrange(len(parts.weights))
-    others = sum(parts.weights) - parts.weights[y]
+    others = parts.zero + sum(parts.weights) - parts.weights[y]
     parts.weights[y] = r.choice((max(0, MOST_SUM - 1 - others), MOST_SUM - others, MOST_SUM + 1 - others, GREATEST_NUMBER))
 
 
+def limit_zero(r, parts):
+    """Whatever the order is. With another term it may leave no divisor."""
+    rest = MOST_SUM - sum(parts.weights)
+    parts.zero = r.choice((1, max(0, rest - 1), rest, rest + 1, MOST_SUM, GREATEST_NUMBER))
+    if r.random() < 0.3:
+        parts.terms[0] = r.choice((parts.divisor, MOST_TERM)), parts.terms[0][1]
+
+
 def no_sum(r, parts):
+    """All weights are 0, or all but w(0)."""
     parts.weights = [0] * len(parts.weights)
+    parts.zero = r.choice((0, 0, 1, parts.zero, MOST_SUM, MOST_SUM + 1))
 
 
 def limit_last(r, parts):
@@ -186,13 +222,13 @@ def limit_last(r, parts):
 def at_limits(r):
     """A sheet with one number or pair at a limit of the job or just outside, or as large as a number can be."""
     parts = r.choice((named, free))(r)
-    change = r.choice((limit_divisor, limit_term, limit_term, limit_start, limit_sum, no_sum, limit_last))
+    change = r.choice((limit_divisor, limit_term, limit_term, limit_start, limit_sum, limit_zero, no_sum, limit_last))
     change(r, parts)
     return parts
 
 
 def good(r):
-    make = r.choices((named, free, at_edge, wide, at_limits), (50, 15, 10, 2, 23))[0]
+    make = r.choices((named, free, at_edge, thin, wide, at_limits), (46, 15, 8, 6, 2, 23))[0]
     return make(r).text()
 
 
@@ -254,7 +290,7 @@ def another_number(r, word):
 
 def change_number(r, sheet):
     """One number, often of the first lines."""
-    numbers = list(re.finditer(rb"-?[0-9]+", sheet))[:r.choice((8, 14, 600))]
+    numbers = list(re.finditer(rb"-?[0-9]+", sheet))[:r.choice((9, 15, 600))]
     if not numbers:
         return sheet
     found = r.choice(numbers)
@@ -270,7 +306,7 @@ def other_count(r, sheet):
 
 def swap_lines(r, sheet):
     lines = sheet.split(b"\n")
-    i, j = r.randrange(len(lines)), r.randrange(min(len(lines), 8))
+    i, j = r.randrange(len(lines)), r.randrange(min(len(lines), 9))
     lines[i], lines[j] = lines[j], lines[i]
     return b"\n".join(lines)
 
@@ -278,16 +314,29 @@ def swap_lines(r, sheet):
 def change_line(r, sheet):
     """One line, often of the first, is dropped, doubled, emptied or written otherwise."""
     lines = sheet.split(b"\n")
-    i = r.randrange(min(len(lines), r.choice((8, 600))))
+    i = r.randrange(min(len(lines), r.choice((9, 600))))
     line = lines[i]
     keyword, *words = line.split(b" ")
-    other = r.choice((b"LAW", b"TERM", b"START", b"LAST", b"SEVERITY", b"W", b"", keyword.lower(), keyword + b"S", keyword[:-1]))
+    other = r.choice((b"LAW", b"TERM", b"START", b"LAST", b"ZERO", b"SEVERITY", b"W", b"", keyword.lower(), keyword + b"S", keyword[:-1]))
     lines[i:i + 1] = r.choice((
         [], [line, line], [b""], [b"", line], [keyword], [b" ".join(words)], [b" ".join([keyword, *words[:-1]])],
         [b" ".join([other, *words])], [line.replace(b" ", b"  ")], [line.replace(b" ", b"\t")], [line.replace(b" ", b"")], [line + b" "],
         [line + b" 1"], [line + b"\r"], [b" " + line], [b"# " + line], [b"\xef\xbb\xbf" + line],
     ))
     return b"\n".join(lines)
+
+
+def move_zero(r, sheet):
+    """The line ZERO is left out, as in the sheets of earlier versions, or stands before LAST, behind SEVERITY or at the end, or twice."""
+    found = re.search(rb"(LAST .*\n)(ZERO .*\n)(SEVERITY .*\n)", sheet)
+    if not found:
+        return sheet
+    last, zero, severity = found.groups()
+    before, after = sheet[:found.start()], sheet[found.end():]
+    return before + r.choice((
+        last + severity + after, last + severity + after, zero + last + severity + after, last + severity + zero + after,
+        last + severity + after + zero, last + zero + zero + severity + after,
+    ))
 
 
 def other_line_ends(r, sheet):
@@ -312,7 +361,7 @@ def nothing_left(r, sheet):
 
 
 DAMAGES = (flip_bit, replace_byte, insert_byte, delete_bytes, truncate, change_number, change_number, change_number, other_count,
-           change_line, change_line, swap_lines, other_line_ends, bytes_after, other_size, nothing_left)
+           change_line, change_line, swap_lines, move_zero, other_line_ends, bytes_after, other_size, nothing_left)
 
 
 def sheet(r):

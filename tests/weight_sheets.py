@@ -1,6 +1,7 @@
 """The sheets of tests/reader: good ones, nearly all of 500 weights, and faulty ones, the fault mostly on a weight line. They come from SEED
 and are the same under every version of Python: chances are drawn from `r`, a random.Random, by its method random() alone, whose numbers
-Python promises to keep."""
+Python promises to keep. Those of the record (`recorded`) are sheets of earlier versions, which had no line ZERO; `with_zero` puts it in.
+The others (`of_this_version`) have it, or a fault on it."""
 import random
 import re
 from typing import NamedTuple
@@ -9,6 +10,7 @@ from limits import MOST_BYTES, MOST_ORDER, MOST_WEIGHTS as WEIGHTS
 from random_sheets import GREATEST_NUMBER, Parts
 
 SEED = 1
+ZERO_LINE = b"ZERO 0\n"
 ROWS = (0, WEIGHTS - 1, WEIGHTS, WEIGHTS + 1)
 
 # Every fault of a weight line stands at the first weight, at a middle one and at the last.
@@ -43,12 +45,17 @@ def numbers(r, count):
     return [number(r) for _ in range(count)]
 
 
-def good(r, order, weights):
+def parts(r, order, weights):
     """All numbers before the weights have any length too: what the curve would refuse is the reader's to take."""
     signs = [1 - 2 * below(r, 2) for _ in range(2 * order)]
     terms = [sign * size for sign, size in zip(signs, numbers(r, 2 * order))]
     divisor, low, high, last = numbers(r, 4)
-    return Parts(divisor, list(zip(terms[::2], terms[1::2])), (low, high), last, weights).text()
+    return Parts(divisor, list(zip(terms[::2], terms[1::2])), (low, high), last, 0, weights)
+
+
+def good(r, order, weights):
+    """Without the line ZERO."""
+    return parts(r, order, weights).text().replace(ZERO_LINE, b"")
 
 
 def all_good(r):
@@ -223,7 +230,8 @@ def faulty(sheets):
         yield from faults(sheet)
 
 
-def cases():
+def recorded():
+    """All cases of the record."""
     r = random.Random(SEED)
     for name, sheet, count in all_good(r):
         for places in sorted({*ROWS, count - 1, count}):
@@ -231,3 +239,66 @@ def cases():
     for name, sheet in faulty([good(r, order, numbers(r, WEIGHTS)) for order in range(1, MOST_ORDER + 1)]):
         for places in ROWS:
             yield Case(name, sheet, places)
+
+
+# ---- the line ZERO
+
+def with_zero(sheet):
+    """The sheet with the line ZERO 0 before its line SEVERITY, and the place where that stands. None where there is no line SEVERITY, or
+    where these bytes make the sheet too long."""
+    found = re.search(rb"(?m)^SEVERITY ", sheet)
+    if not found or len(sheet) <= MOST_BYTES < len(sheet) + len(ZERO_LINE):
+        return None
+    return sheet[:found.start()] + ZERO_LINE + sheet[found.start():], found.start()
+
+
+def zero_orders(sheet):
+    """The line ZERO elsewhere than between LAST and SEVERITY."""
+    found = re.search(rb"(LAST .*\n)(ZERO .*\n)(SEVERITY .*\n)", sheet)
+    last, zero, severity = found.groups()
+    orders = {
+        "missing": (last, severity), "before LAST": (zero, last, severity), "behind SEVERITY": (last, severity, zero),
+        "twice": (last, zero, zero, severity), "for LAST": (zero, severity), "for SEVERITY": (last, zero), "for both": (zero,),
+        "on the line LAST": (last.rstrip(b"\n"), b" ", zero, severity),
+    }
+    for name, lines in orders.items():
+        yield f"ZERO line: {name}", sheet[:found.start()] + b"".join(lines) + sheet[found.end():]
+    yield "ZERO line: behind the last", sheet.replace(zero, b"") + zero
+
+
+def zero_faults(sheets):
+    """The faults of a weight line on the line ZERO; and other keywords."""
+    for i, (name, fault) in enumerate(line_faults().items()):
+        before, _, after = sheets[i % len(sheets)].partition(ZERO_LINE)
+        line = fault.line.replace(b"W", b"ZERO").replace(b"w", b"zero")
+        yield f"ZERO line: {name}", before + line + (b"" if fault.is_cut else after)
+    for keyword in b"ZER", b"ZEROS", b"Zero", b"zERO", b"ZERP", b"W", b"SEVERITY", b"TERM":
+        yield f"ZERO line: keyword {keyword.decode()}", sheets[0].replace(ZERO_LINE, keyword + b" 0\n")
+
+
+def zero_sizes(sheet):
+    """Two faults, and so many digits on the line ZERO that the sheet is as long as can be, or too long."""
+    yield "m is 0, behind a line ZERO", other_number(sheet, b"SEVERITY", 0)
+    yield "ZERO line: letter at the end, and m is 0", other_number(sheet, b"SEVERITY", 0).replace(ZERO_LINE, b"ZERO 0n\n")
+    yield "LAST line: letter at the end, and ZERO missing", re.sub(rb"(LAST [0-9]+)\nZERO 0\n", rb"\1n\n", sheet)
+    yield "behind the last line: the line ZERO again", sheet + ZERO_LINE
+    for size in MOST_BYTES, MOST_BYTES + 1:
+        at = sheet.index(ZERO_LINE) + len(ZERO_LINE) - 1
+        yield f"ZERO line: so many digits that the sheet has {size} bytes", filled(sheet, at, b"5", size)
+
+
+def all_zeros(r):
+    """Good sheets with any w(0)."""
+    edges = 1, 9, 10, 999, 1000, 1001, 2 ** 31, 2 ** 32 - 1, 2 ** 32, 2 ** 32 + 1, GREATEST_NUMBER
+    for i, zero in enumerate([*edges, *(of_length(r, length) for length in range(1, 11))]):
+        found = parts(r, 1 + i % MOST_ORDER, numbers(r, (1, 3, WEIGHTS)[i % 3]))
+        found.zero = zero
+        yield f"good: w(0) is {zero}, {i}", found.text()
+
+
+def of_this_version():
+    """All cases that have a line ZERO, or should."""
+    r = random.Random(SEED + 1)
+    good_ones = [parts(r, order, numbers(r, WEIGHTS)).text() for order in range(1, MOST_ORDER + 1)]
+    sheets = [*all_zeros(r), *zero_faults(good_ones), *zero_orders(good_ones[1]), *zero_sizes(good_ones[2])]
+    return [Case(name, sheet, places) for name, sheet in sheets for places in ROWS]
