@@ -19,7 +19,8 @@ encloses-with-zeros job weights lent ok one h p n ends (low, high) x l =
 
 pub encloses-limit-with-zeros : EnclosesLimitWithZeros
 encloses-limit-with-zeros job weights lent ok one h p count x l =
-    let (N, K, near) = distribution-is-thinned (givenLaw job weights h) one (job .zero) (jobTable job weights h) (h .thinned-pos) count p x in (
+    let law = givenLaw job weights h in
+    let (N, K, near) = distribution-is-thinned law one (job .zero) (jobTable job weights h) (h .thinned-pos) count p x in (
       N,
       K,
       λ n above start.

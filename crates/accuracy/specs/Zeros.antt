@@ -1,6 +1,6 @@
--- What the rows of an accepted job of order 1 say of the amounts in which claims of size 0 count as claims (`upToClaims`, exact/specs/Zeros,
--- from a chance p of no claims, in units): "a start is now the chance that the total is zero", so the rows enclose them where the start
--- holds their chance of total 0.
+-- What the rows of an accepted job of order 1 say of the amounts in which claims of size 0 count as claims (`upToClaims` of
+-- exact/specs/Zeros, from a chance p of no claims, in units): "a start is now the chance that the total is zero", so the rows enclose them
+-- where the start holds their chance of total 0.
 use mathlib.Core.Path.{_≡_}
 use mathlib.Core.List.{List}
 use Prim.Native.Nat.{ℕ, suc, _≤_}
