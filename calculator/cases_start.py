@@ -229,13 +229,13 @@ def zero_mean(mean, share, *given):
 
 
 def zero_trials(trials, chance, share, *given):
-    return Zeros(f"binomial {trials} {chance}, zeros {share}", binomial(trials, chance), share, zero_of_trials(chance, trials, 0),
-                 zero_of_trials(chance, trials, share), (*given, trials))
+    return Zeros(f"binomial {trials} {chance}, zeros {share}", binomial(trials, chance), share, zero_of_trials(trials, chance, 0),
+                 zero_of_trials(trials, chance, share), (*given, trials))
 
 
 def zero_shape(shape, ratio, share, *given):
     return Zeros(f"negative binomial {shape} {ratio}, zeros {share}", negative_binomial(shape, ratio), share,
-                 zero_of_shape(ratio, shape, 0), zero_of_shape(ratio, shape, share), (*given, shape))
+                 zero_of_shape(shape, ratio, 0), zero_of_shape(shape, ratio, share), (*given, shape))
 
 
 # Wish 7: with a share q of zeros a mean, or the chance of a trial, changes by the factor 1 - q, and a ratio p becomes p(1 - q)/(1 - pq).

@@ -41,17 +41,17 @@ def not_taken(said):
 
 
 def zero_of_mean(mean, q):
-    """Of a Poisson law; two fractions that it lies between."""
+    """Of a Poisson law: two fractions that it lies between, for a mean of at most 20."""
     return tuple(partial_sum(Fraction(mean) * (q - 1), last) for last in (BELOW, ABOVE))
 
 
-def zero_of_trials(chance, trials, q):
-    """Of a binomial law; as for the others, two fractions, which are the same here."""
+def zero_of_trials(trials, chance, q):
+    """Of a binomial law: the fraction itself, twice, in the place of two that it lies between."""
     return ((1 - chance + chance * q) ** trials,) * 2
 
 
-def zero_of_shape(ratio, shape, q):
-    """Of a negative binomial law whose shape is whole."""
+def zero_of_shape(shape, ratio, q):
+    """Of a negative binomial law whose shape is whole, likewise."""
     return (((1 - ratio) / (1 - ratio * q)) ** shape,) * 2
 
 
@@ -64,13 +64,13 @@ def outside_mean(said, upper, lower):
         yield from not_held(said, f"e to the minus mean, by the sum to term {last}", partial_sum(-mean, last))
 
 
+def outside_trials(said, upper, lower, trials):
+    yield from not_taken(said)
+    yield from not_held(said, "the exact power", (1 - Fraction(upper, lower)) ** trials)
+
+
 def outside_zero(said, zero):
     """The chance that the total is zero lies between two fractions."""
     yield from not_taken(said)
     for end in zero:
         yield from not_held(said, "the chance that the total is zero", end)
-
-
-def outside_trials(said, upper, lower, trials):
-    yield from not_taken(said)
-    yield from not_held(said, "the exact power", (1 - Fraction(upper, lower)) ** trials)

@@ -1,7 +1,6 @@
 """Whether the clerk's amounts for a table with a weight at 0 are those of Theorem 9 of source document 002. Nothing here uses the law of
 the claims that are not zero: severity 0 stays in the table, and g(x) is the sum over n of p_n times the n-fold convolution at x, so that
-g(0) is that of p_n q^n. Count coefficients stand for the p_n, by the law's closed form; p_0 is a factor of all g(x), and of g(x)/g(0)
-none."""
+g(0) is that of p_n q^n. Count coefficients stand for the p_n, by the law's closed form, as p_0 is a factor of all g(x)."""
 from fractions import Fraction
 from math import comb
 

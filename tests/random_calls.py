@@ -168,9 +168,12 @@ def random_job(r):
     return job
 
 
+WITH_ZEROS = "0 with w(0)"
+
+
 def curve_outcome(number, zero):
-    """Those that are accepted with claims of size 0 are counted apart."""
-    return "0 with w(0)" if number == 0 and zero else number
+    """What is accepted with claims of size 0 is counted apart."""
+    return WITH_ZEROS if number == 0 and zero else number
 
 
 def curve_call(r):
@@ -540,7 +543,7 @@ def numbered(seed, index):
 
 # What each call can be answered, 0 for an acceptance.
 CAN_ARISE = {
-    "claimtotals_curve": [0, "0 with w(0)", 1, 2, 3, 4, 5, 6, 11, 12, 13, 7, 8, 9, 10],
+    "claimtotals_curve": [0, 1, 2, 3, 4, 5, 6, 11, 12, 13, 7, 8, 9, 10],
     "claimtotals_read_sheet": [0, 21, 22, 23, 24, 25, 26, 27],
     "claimtotals_faulty_word": ["none", "word", "empty word"],
     "claimtotals_sure": [0, 31, 32, 33, 34],
@@ -551,3 +554,6 @@ CAN_ARISE = {
     "claimtotals_law_panjer_willmot": [0, 51, 52, 53],
     "claimtotals_law_hesselager": [0, 51, 52, 53],
 }
+
+# What each is counted as; all of it has to arise.
+OUTCOMES = {**CAN_ARISE, "claimtotals_curve": [WITH_ZEROS, *CAN_ARISE["claimtotals_curve"]]}

@@ -8,3 +8,4 @@ pub mod Query
 pub mod Layer
 pub mod GivenStart
 pub mod GivenLaw
+pub mod Zeros

@@ -13,7 +13,7 @@ use Rattle.rows.specs.Layout.{Lent}
 use Rattle.compound.specs.Call.{wrongStart}
 use Rattle.accuracy.specs.Accuracy.{Accepted, shown}
 
--- with a chance of no claims of p units the exact amount at x lies from low to high
+-- with a starting chance of p units the exact amount at x lies from low to high
 abbrev pub EnclosedFor : (job : Job) (weights : List ℕ) → Lent → Divisible job weights → ℕ → Fraction → Type 0
 EnclosedFor job weights lent d x p = Between (shown job weights lent x .low) (shown job weights lent x .high) (amount job weights d p x)
 

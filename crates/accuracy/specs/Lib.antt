@@ -1,8 +1,10 @@
 -- Demand 3, as statements about what the lent rows hold on return (`Accuracy`, `Rows`), and what it says of quantiles (`Query`), of layer
--- costs (`Layer`), of starts from a law's own name (`GivenStart`) and of laws from a publication (`GivenLaw`).
+-- costs (`Layer`), of starts from a law's own name (`GivenStart`), of laws from a publication (`GivenLaw`) and of claims that close at
+-- nothing (`Zeros`).
 pub mod Accuracy
 pub mod Rows
 pub mod Query
 pub mod Layer
 pub mod GivenStart
 pub mod GivenLaw
+pub mod Zeros

@@ -99,8 +99,9 @@ module _ (job : Job) (weights : List ℕ) (lent : Lent) where
           }
 
 -- "a nonzero weight at 0 when k is above 1" is refused: further rows, of which there are k - 1, have a table without zeros
-pub zeros-refused : (job : Job) (weights : List ℕ) (lent : Lent) (rest : List Condition) → firstOf (checks job weights lent ++ rest) ≡ accepted
-    → 1 < job .law .order → job .zero ≡ 0
+pub zeros-refused : (job : Job) (weights : List ℕ) (lent : Lent) (rest : List Condition)
+    → firstOf (checks job weights lent ++ rest) ≡ accepted → 1 < job .law .order → job .zero ≡ 0
 zeros-refused job weights lent rest e above =
     let fails = none-holds (checks job weights lent) rest tt e .0 11 in
-    omega (arith, ltb-false 0 (job .zero) (and-fails (ltb 0 (job .zero)) (ltb 1 (job .law .order)) fails (lt-ltb 1 (job .law .order) above)))
+    let none = and-fails (ltb 0 (job .zero)) (ltb 1 (job .law .order)) fails (lt-ltb 1 (job .law .order) above) in
+    omega (arith, ltb-false 0 (job .zero) none)

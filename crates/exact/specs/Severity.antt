@@ -6,7 +6,7 @@ use lib.ListN.{getD}
 use Rattle.algebra.specs.Fraction.{Fraction, over, whole, _⊗_, oneTo, _≈_}
 use Rattle.model.specs.Weights.{totalWeight}
 
--- the weights w(1), .., w(m)
+-- the weights w(1), .., w(m), those of the claims that are not zero
 pub record Severity : Type 0 where
   pub weights : List ℕ
   pub total-pos : 1 ≤ totalWeight weights
@@ -16,7 +16,7 @@ abbrev pub weight : Severity → ℕ → ℕ
 weight table zero = 0
 weight table (suc y) = getD (table .weights) y 0
 
--- "f(y) = w(y)/W, and 0 for y past m."
+-- "f(y) = w(y)/W, and 0 for y past m.", with these weights' own sum for W
 unfoldable pub density : Severity → ℕ → Fraction
 density table y = over (pos (weight table y)) (totalWeight (table .weights)) (table .total-pos)
 

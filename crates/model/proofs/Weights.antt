@@ -1,4 +1,4 @@
--- D W - A w(0): its size where each of its numbers is at most 1,000 in size, by those of the two products; and that it is D W without zeros.
+-- D W - A w(0): its size, where each of its numbers is at most 1,000 in size, by those of the two products; without zeros it is D W.
 use mathlib.Core.Path.{_≡_, ap, _∙_}
 use Prim.Native.Nat.{ℕ, _*_, _≤_}
 use native.Mathlib.Nat as NL

@@ -87,4 +87,5 @@ returns-2 c =
     rw (product-is s, part-is s, toZ-ofZ (part-fits s), toZ-ofZ (number-fits s)) (least c .1)
 
 pub thinned-divisor-spec : {M : Type 1} → statement M
-thinned-divisor-spec = tie.close (tie.spec mul-thinned cast-thinned (λ c. search needs) mul-thinned-2 sub-thinned returns cast-result returns-2)
+thinned-divisor-spec =
+    tie.close (tie.spec mul-thinned cast-thinned (λ c. search needs) mul-thinned-2 sub-thinned returns cast-result returns-2)

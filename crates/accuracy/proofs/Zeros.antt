@@ -1,0 +1,30 @@
+-- By `Encloses` for the chance of total 0 as the starting chance, since the amounts with zeros are those of the thinned law from there, or
+-- come as near to them as one likes.
+use mathlib.Core.Path.{sym, subst}
+use Rattle.algebra.specs.Fraction.{Fraction, _⊕_, _≼_}
+use Rattle.algebra.proofs.Value.{order, value, value-plus, value-le, le-of-value, value-eq, Within, within-value, of-within, ≼-trans}
+use Rattle.exact.specs.JobAmount.{givenLaw, jobTable}
+use Rattle.exact.proofs.Limit.{finite-is-thinned, distribution-is-thinned}
+use Rattle.accuracy.specs.Zeros.{withZeros, EnclosesWithZeros, EnclosesLimitWithZeros}
+use Rattle.accuracy.proofs.Accuracy.{encloses}
+
+plus-mono : {x y : Fraction} (e : Fraction) → x ≼ y → x ⊕ e ≼ y ⊕ e
+plus-mono {x} {y} e h = le-of-value (rw (value-plus x e, value-plus y e) (order .add-le (value e) (value-le h)))
+
+pub encloses-with-zeros : EnclosesWithZeros
+encloses-with-zeros job weights lent ok one h p n ends (low, high) x l =
+    let same = finite-is-thinned (givenLaw job weights h) one (job .zero) (jobTable job weights h) (h .thinned-pos) p n ends x in
+    of-within _ _ _ (subst (Within _ _) (sym (value-eq same))
+    (within-value _ _ _ (encloses job weights lent ok h x l (withZeros job weights h p n 0) low high)))
+
+pub encloses-limit-with-zeros : EnclosesLimitWithZeros
+encloses-limit-with-zeros job weights lent ok one h p count x l =
+    let law = givenLaw job weights h in
+    let (N, K, near) = distribution-is-thinned law one (job .zero) (jobTable job weights h) (h .thinned-pos) count p x in (
+      N,
+      K,
+      λ n above start.
+          let inside = encloses job weights lent ok h x l (withZeros job weights h p n 0) (start .0) (start .1) in
+          let close = near n above in
+          (≼-trans (inside .0) (close .1), ≼-trans (close .0) (plus-mono _ (inside .1))),
+    )
