@@ -22,7 +22,7 @@ COMMAND = "claimtotals"
 EXAMPLES = ("start --mean 37/10", "law --alpha 0 9 --beta 12 -1", "table examples/poisson.txt --digits", "level examples/poisson.txt 0.99",
             "layers examples/poisson.txt 5:10 10:20", "picture examples/poisson.txt -o glass.svg",
             "upgrade examples/older.txt > new.txt")
-STATUS = "status: 0; 1 where a call refuses, which is told in words on standard error; 2 for wrong use, and where input or output fails"
+STATUS = "status: 0; 1 for a refusal, which is told in words on standard error; 2 for wrong use, and where input or output fails"
 
 
 def sheet_bytes(path: str) -> bytes:
