@@ -1,4 +1,5 @@
--- Demand 3 for a job whose start is what a call of `start` gave: the exact amounts with the very number that the start stands for.
+-- Demand 3 for a job whose start is what a call of `start` gave: the exact amounts with the very number that was asked for. "Wish 1 serves
+-- only tables with weight 0 there": with w(0) above 0 a mean or a chance is that of the claims that are not zero.
 use mathlib.Core.Path.{_≡_}
 use mathlib.Core.Bool.{false}
 use mathlib.Core.List.{List}

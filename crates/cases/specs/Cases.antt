@@ -288,6 +288,8 @@ cases =
     ∷ zeros lawP6 (startOf 1000 1000) 1 1000 (1 ∷ []) (refused 6 0) untouched
     ∷ zeros lawP6 (startOf 1000 1000) 1 18446744073709551615 (1 ∷ []) (refused 6 0) untouched
     ∷ zeros lawP4 startP4 2 1000 (1 ∷ []) (refused 6 0) untouched
+    -- and a table without any weight is refused by 6, before 13
+    ∷ zeros lawP6 startP6 1 0 (0 ∷ 0 ∷ []) (refused 6 0) untouched
     -- "with 11, after 6, a nonzero weight at 0 when k is above 1", before 12
     ∷ zeros lawP4 startP4 2 1 (1 ∷ []) (refused 11 0) untouched
     ∷ zeros (law 2 1 (pos 3 ∷ pos 0 ∷ []) (pos 0 ∷ pos 1 ∷ [])) startP4 2 1 (1 ∷ []) (refused 11 0) untouched

@@ -73,7 +73,7 @@ module _ (job : Job) (weights : List ℕ) (lent : Lent) where
             weights-least = not-zero (totalWeight weights) (fails 13);
             weights-most = omega (arith, total);
           };
-          total-most = total;
+          all-most = total;
           thinned-least = not-zero (jobDivisor job weights) (fails 12);
           start-order = ltb-false (job .start .high) (job .start .low) (or-left _ _ (fails 4));
           start-most = ends .1;

@@ -1,7 +1,7 @@
 -- Where the conditions before them hold no more, D and W are at least 1; with w(0) 0 the divisor is then D W, so that 11, 12 and 13 do not
 -- hold. The rows follow the curve's rule, whose divisors are those of before.
 use mathlib.Core.Path.{_≡_, ap, _∙_}
-use mathlib.Core.Bool.{_&&_}
+use mathlib.Core.Bool.{_&&_, cond}
 use mathlib.Core.List.{List, _++_}
 use Prim.Native.Nat.{ℕ, suc, _*_, _≤_, _<_}
 use native.Mathlib.Nat as NL
@@ -13,15 +13,15 @@ use lib.ListN.{getD}
 use Rattle.model.specs.declared.Job.{Job}
 use Rattle.model.specs.Job.{jobDivisor}
 use Rattle.model.specs.Weights.{totalWeight, allWeight, thinnedDivisor, divisorZero}
-use Rattle.model.specs.Answer.{Condition, firstOf}
+use Rattle.model.specs.Answer.{Answer, Condition, isAccepted, firstOf}
 use Rattle.model.proofs.Answer.{first-fails, NoneHolds, first-same}
 use Rattle.model.proofs.Tests.{within}
 use Rattle.model.proofs.Weights.{thinned-none}
 use Rattle.enclosure.specs.Entry.{rounded}
-use Rattle.rows.specs.Curve.{sumsAt, entryAt, curveRows}
+use Rattle.rows.specs.Curve.{firstEntry, sumsAt, entryAt, curveRows}
 use Rattle.rows.specs.Layout.{Lent}
 use Rattle.rows.proofs.Recursion.{curve-rule}
-use Rattle.compound.specs.Call.{jobChecks, zeroChecks, roomChecks, faults, curveAnswer}
+use Rattle.compound.specs.Call.{jobChecks, zeroChecks, roomChecks, faults, curveAnswer, ran, curveLent}
 use Rattle.compound.specs.ZeroWeight.{ZeroWeightAsBefore}
 
 module _ (job : Job) (weights : List ℕ) (none : job .zero ≡ 0) where
@@ -43,12 +43,23 @@ module _ (job : Job) (weights : List ℕ) (none : job .zero ≡ 0) where
       ∙ first-fails _ _ (ne-eqb (jobDivisor job weights) 0 (omega (arith, thinned)))
       ∙ first-fails _ _ (ne-eqb (totalWeight weights) 0 (omega (arith, total)))
 
+  without : (rest : List Condition) → firstOf (jobChecks job weights ++ (zeroChecks job weights ++ rest)) ≡ firstOf (jobChecks job weights ++ rest)
+  without rest = first-same (jobChecks job weights) (zeroChecks job weights ++ rest) rest (λ fails. not-refused fails rest)
+
   answer : (lent : Lent) → curveAnswer job weights lent ≡ firstOf (jobChecks job weights ++ (roomChecks job lent ++ faults job weights))
   unfolding curveAnswer
-  answer lent = first-same (jobChecks job weights) (zeroChecks job weights ++ (roomChecks job lent ++ faults job weights))
-      (roomChecks job lent ++ faults job weights) (λ fails. not-refused fails (roomChecks job lent ++ faults job weights))
+  answer lent = without (roomChecks job lent ++ faults job weights)
+
+  lent-rows : (lent : Lent) → curveLent job weights lent
+      ≡ cond (isAccepted (firstOf (jobChecks job weights ++ roomChecks job lent))) (ran job weights lent) lent
+  unfolding curveLent
+  lent-rows lent = ap (λ (answer : Answer). cond (isAccepted answer) (ran job weights lent) lent) (without (roomChecks job lent))
 
   -- ---- the rows
+  first : (j : ℕ) → j < job .law .order → curveRows job weights j 0 ≡ firstEntry (job .start) j
+  unfolding entryAt
+  first j l = curve-rule job weights j 0 l
+
   row-zero : (x : ℕ) → 0 < job .law .order → curveRows job weights 0 (suc x)
       ≡ rounded (job .law .divisor * suc x * totalWeight weights) (sumsAt (job .law) weights (curveRows job weights) 0 (suc x))
   unfolding entryAt divisorZero
@@ -63,5 +74,11 @@ module _ (job : Job) (weights : List ℕ) (none : job .zero ≡ 0) where
       ∙ ap (λ (d : ℕ). rounded d (sumsAt (job .law) weights (curveRows job weights) (suc j) (suc x))) weight-is
 
 pub zero-weight-as-before : ZeroWeightAsBefore
-zero-weight-as-before job weights none =
-    (answer job weights none, weight-is job weights none, row-zero job weights none, row-next job weights none)
+zero-weight-as-before job weights none = (
+  answer job weights none,
+  weight-is job weights none,
+  lent-rows job weights none,
+  first job weights none,
+  row-zero job weights none,
+  row-next job weights none,
+)

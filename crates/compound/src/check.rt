@@ -95,6 +95,7 @@ fn with_zero(zero: u64, total: u64) -> u64
     zero + total
 }
 
+// Whether there are claims of size 0, and the order is above 1.
 fn is_zero_order(zero: u64, order: u64) -> bool
     ensures { λ r. ⌜ r ≡ (ltb 0 zero && ltb 1 order) ⌝ }
 {

@@ -28,14 +28,15 @@ RowRecursion = (law : Frequency) (table : Severity) (p : Fraction) (x : ℕ)
 unfoldable pub wholeFactor : Frequency → Severity → ℕ → ℕ → ℕ → ℤ
 wholeFactor law table x i y = (law .termA i *ℤ pos x +ℤ law .termB i *ℤ pos y) *ℤ pos (weight table y)
 
--- the row recursion with whole factors: "y from 1 to the smaller of x and m", "The divisor is D times x times W."
+-- the row recursion with whole factors: "y from 1 to the smaller of x and m", "The divisor is D times x times W.", with the sum of the
+-- weights from 1 on for W
 abbrev pub WholeRecursion : Type 0
 WholeRecursion = (law : Frequency) (table : Severity) (p : Fraction) (x : ℕ)
     → whole (pos (law .divisor * x * totalWeight (table .weights))) ⊗ exactAmount law table p x
     ≈ oneTo (law .order) (λ i. oneTo (min x (length (table .weights))) (λ y.
     whole (wholeFactor law table x i y) ⊗ exactRow law table p (i - 1) (x - y)))
 
--- "Row j ≥ 1 sums w(y) times the entry of row j-1 at x-y. The divisor is W."
+-- "Row j ≥ 1 sums w(y) times the entry of row j-1 at x-y. The divisor is W.", with the same sum
 abbrev pub WholeConvolution : Type 0
 WholeConvolution = (law : Frequency) (table : Severity) (p : Fraction) (j x : ℕ)
     → whole (pos (totalWeight (table .weights))) ⊗ exactRow law table p (suc j) x

@@ -33,7 +33,7 @@ module _ (law : Frequency) (w₀ : ℕ) (table : Severity) where
   lawDivisor = thinnedDivisor (law .divisor) (law .termA 1) w₀ (allWeight w₀ (table .weights))
 
   -- "the law of the claims that are not zero: terms a and b, each times (1 - q) over (1 - aq)": A V and B V over D W - A w(0). For a law
-  -- of a higher order w(0) is 0, and its terms keep their values.
+  -- of a higher order 11 leaves w(0) = 0 alone, and its terms keep their values.
   abbrev pub thinnedLaw : 1 ≤ lawDivisor → Frequency
   thinnedLaw h = record {
     order = law .order;

@@ -27,7 +27,7 @@ pub record TableLimits (weights : List ℕ) : Type 0 where
 pub record Limits (job : Job) (weights : List ℕ) : Type 0 where
   pub law : LawLimits (job .law)
   pub table : TableLimits weights
-  pub total-most : allWeight (job .zero) weights ≤ 1000
+  pub all-most : allWeight (job .zero) weights ≤ 1000
   pub thinned-least : 1 ≤ jobDivisor job weights
   pub start-order : job .start .low ≤ job .start .high
   pub start-most : job .start .high ≤ unit

@@ -2,7 +2,7 @@
 -- condition's refusal, and where it does not, the next condition is due.
 use borrow.Author.Needs.{needs}
 use borrow.Author.Tests.{lt-ltb, le-ltb, eq-eqb, ne-eqb}
-use mathlib.Core.Path.{_≡_, refl, sym, ap, _∙_}
+use mathlib.Core.Path.{_≡_, refl, sym, ap, ap₂, _∙_}
 use mathlib.Core.Bool.{true, true≢false}
 use mathlib.Core.List.{List}
 use Prim.Native.Nat.{ℕ, _≤_, min}
@@ -195,14 +195,11 @@ returns-11 c = refuses (c .refused11 .ensures) (due-refuses (room-due (c .before
 abbrev divisors : ℕ → ℕ → Divisors
 divisors first further = record { first = first; further = further }
 
-same-divisors : {m m′ n n′ : ℕ} → m ≡ m′ → n ≡ n′ → divisors m n ≡ divisors m′ n′
-same-divisors p q = λ i. record { first = p i; further = q i }
-
 returns-12 : tie.Need-returns-12
 returns-12 c =
     let call = c .before .before .before .before .before .before in (
       sym (due-accepts refl (room-due (c .before)) (c .if11 .left)),
-      λ accepts. same-divisors (first-is call) (sum-whole (call .before .before .before .before .before)),
+      λ accepts. ap₂ divisors (first-is call) (sum-whole (call .before .before .before .before .before)),
     )
 
 pub check-spec : {M : Type 1} → statement M

@@ -44,6 +44,10 @@ module _ (c : tie.Start) where
   part-is : toZ w64 (ofZ w64 (c .args .a)) *ℤ toZ w64 (c .args .zero) ≡ c .args .a *ℤ pos (c .args .zero)
   part-is = rw (toZ-ofZ (c .fits .a), zero-is)
 
+  number-is : toZ w64 (ofZ w64 (toZ w64 (c .args .divisor * c .args .total)
+      -ℤ toZ w64 (ofZ w64 (toZ w64 (ofZ w64 (c .args .a)) *ℤ toZ w64 (c .args .zero))))) ≡ number
+  number-is = rw (product-is, part-is, toZ-ofZ part-fits) (toZ-ofZ number-fits)
+
 mul-thinned : tie.Need-mul-thinned
 mul-thinned c = record { fits = omega (arith, product-most c) }
 
@@ -68,23 +72,23 @@ not-below (negsuc n) t = absurd (true≢false t)
 returns : tie.Need-returns
 returns c =
     let s = c .before in
-    below-zero (number s) (rw (product-is s, part-is s, toZ-ofZ (part-fits s), toZ-ofZ (number-fits s)) at (c .if1 .taken))
+    below-zero (number s) (rw (number-is s) at (c .if1 .taken))
 
 -- the number is not below zero
 least : (c : tie.Else1) → T (nonNeg (number (c .before))) × (natAbs (number (c .before)) ≡ up (number (c .before)))
 least c =
     let s = c .before in
-    not-below (number s) (rw (product-is s, part-is s, toZ-ofZ (part-fits s), toZ-ofZ (number-fits s)) at (c .if1 .left))
+    not-below (number s) (rw (number-is s) at (c .if1 .left))
 
 cast-result : tie.Need-cast-result
 cast-result c =
     let s = c .before in
-    rw (product-is s, part-is s, toZ-ofZ (part-fits s), toZ-ofZ (number-fits s)) (least c .0, fits-of-lt (omega (arith, size s)))
+    rw (number-is s) (least c .0, fits-of-lt (omega (arith, size s)))
 
 returns-2 : tie.Need-returns-2
 returns-2 c =
     let s = c .before in
-    rw (product-is s, part-is s, toZ-ofZ (part-fits s), toZ-ofZ (number-fits s)) (least c .1)
+    rw (number-is s) (least c .1)
 
 pub thinned-divisor-spec : {M : Type 1} → statement M
 thinned-divisor-spec =

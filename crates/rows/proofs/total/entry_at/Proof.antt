@@ -33,7 +33,7 @@ returns c =
 -- row 0
 first-most : (job : Job) (weights : List ℕ) → Limits job weights → jobDivisor job weights ≤ 2000000
 first-most job weights limits = thinned-most (job .law .divisor) (getD (job .law .a) 0 (pos 0)) (job .zero) (allWeight (job .zero) weights)
-    (limits .law .divisor-most) (limits .law .a-small 0 (lit< tt)) (omega (arith, limits .total-most)) (limits .total-most)
+    (limits .law .divisor-most) (limits .law .a-small 0 (lit< tt)) (omega (arith, limits .all-most)) (limits .all-most)
 
 divisor-zero-requires : tie.Need-divisor-zero-requires
 divisor-zero-requires c κs =
@@ -94,7 +94,7 @@ divide-sums-requires-2 c κs =
     let table = basis .table-limits in
     let below : suc (a .row - 1) < a .job .law .order = omega (arith, s .pre .0 .0, c .before .before .if2 .left) in (
       rw (s .pre .0 .1) (omega (arith, table .weights-least)),
-      rw (s .pre .0 .1) (omega (arith, s .pre .0 .2 .total-most)),
+      rw (s .pre .0 .1) (omega (arith, s .pre .0 .2 .all-most)),
       rw (sums-are c) (bound-fits (a .job .law) (a .weights .now) (a .x) _ basis (suc (a .row - 1)) _ below),
     )
 
