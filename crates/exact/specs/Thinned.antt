@@ -43,8 +43,8 @@ module _ (law : Frequency) (w₀ : ℕ) (table : Severity) where
     termB = λ i. law .termB i *ℤ pos (totalWeight (table .weights));
   }
 
--- where A is at most D, as for Poisson, binomial and negative binomial laws, that is at least D times V: no weight of size 0 makes the
--- divisor smaller, and 12 refuses no such law where V is not 0
+-- where A is at most D, as for Poisson, binomial and negative binomial laws, D W - A w(0) is at least D times V: no weight of size 0 makes
+-- the divisor smaller, and 12 refuses no such law where V is not 0
 abbrev pub ThinnedDivisorLarge : Type 0
 ThinnedDivisorLarge = (D : ℕ) (A : ℤ) (w₀ : ℕ) (weights : List ℕ) → A ≤ℤ pos D
     → D * totalWeight weights ≤ thinnedDivisor D A w₀ (allWeight w₀ weights)
