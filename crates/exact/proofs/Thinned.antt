@@ -28,7 +28,7 @@ use Rattle.model.specs.Weights.{totalWeight, allWeight, divisorZero}
 use Rattle.exact.specs.Frequency.{Frequency, a, b, countCoefficient}
 use Rattle.exact.specs.Severity.{Severity, weight, density}
 use Rattle.exact.specs.Recursion.{wholeFactor}
-use Rattle.exact.specs.Thinned.{all-pos, zeroShare, oneLess, lawDivisor, thinnedLaw, ThinnedDivisorLarge, ThinnedTerms}
+use Rattle.exact.specs.Thinned.{all-pos, zeroShare, complement, lawDivisor, thinnedLaw, ThinnedDivisorLarge, ThinnedTerms}
 use Rattle.exact.specs.Thinned.{ThinnedSeverities, ThinnedRecursion, ThinnedConvolution, ThinnedWithoutZeros}
 use Rattle.exact.specs.JobAmount.{ZeroWeightSameAmounts}
 use Rattle.exact.proofs.Convolution.{power}
@@ -106,15 +106,15 @@ law-divisor law w₀ table h =
     ∙ ap (λ (u : A). integer (law .termA 1) · u) (int-pos (order .ring) w₀)))
 
 -- ---- the terms and the severities
-value-oneLess : (x : Fraction) → value (oneLess x) ≡ 𝟙 ⊹ neg (value x)
-unfolding oneLess
-value-oneLess x = cancel-eq order (x .lower) (x .lower-pos)
+value-complement : (x : Fraction) → value (complement x) ≡ 𝟙 ⊹ neg (value x)
+unfolding complement
+value-complement x = cancel-eq order (x .lower) (x .lower-pos)
     (value-over (pos (x .lower) -ℤ x .upper) (x .lower) (x .lower-pos)
     ∙ int-add (order .ring) (pos (x .lower)) (negℤ (x .upper))
     ∙ ap₂ _⊹_ (int-pos (order .ring) (x .lower)) (int-neg (order .ring) (x .upper) ∙ ap neg (sym (value-upper x)))
     ∙ solve (order .ring) (nat ℚ (x .lower) ∷ value x ∷ []) (var 0 :+ :- (var 0 :* var 1)) (var 0 :* (unit :+ :- var 1)) tt)
 
-ruleset fractions = (value-times, value-oneLess)
+ruleset fractions = (value-times, value-complement)
 
 module _ (w₀ : ℕ) (table : Severity) where
   W : A

@@ -23,8 +23,8 @@ unfoldable pub zeroShare : ℕ → Severity → Fraction
 zeroShare w₀ table = over (pos w₀) (allWeight w₀ (table .weights)) (all-pos w₀ table)
 
 -- 1 - x
-unfoldable pub oneLess : Fraction → Fraction
-oneLess x = over (pos (x .lower) -ℤ x .upper) (x .lower) (x .lower-pos)
+unfoldable pub complement : Fraction → Fraction
+complement x = over (pos (x .lower) -ℤ x .upper) (x .lower) (x .lower-pos)
 
 -- ---- the law
 module _ (law : Frequency) (w₀ : ℕ) (table : Severity) where
@@ -52,15 +52,15 @@ ThinnedDivisorLarge = (D : ℕ) (A : ℤ) (w₀ : ℕ) (weights : List ℕ) → 
 -- in the paper's words: 1 - aq is above zero, and each term of the thinned law times it is the given law's term times 1 - q
 abbrev pub ThinnedTerms : Type 0
 ThinnedTerms = (law : Frequency) (w₀ : ℕ) (table : Severity) (h : 1 ≤ lawDivisor law w₀ table)
-    → let remaining = oneLess (a law 1 ⊗ zeroShare w₀ table) in
+    → let remaining = complement (a law 1 ⊗ zeroShare w₀ table) in
     ¬ (remaining ≼ whole (pos 0))
-    × ((i : ℕ) → a (thinnedLaw law w₀ table h) i ⊗ remaining ≈ a law i ⊗ oneLess (zeroShare w₀ table))
-    × ((i : ℕ) → b (thinnedLaw law w₀ table h) i ⊗ remaining ≈ b law i ⊗ oneLess (zeroShare w₀ table))
+    × ((i : ℕ) → a (thinnedLaw law w₀ table h) i ⊗ remaining ≈ a law i ⊗ complement (zeroShare w₀ table))
+    × ((i : ℕ) → b (thinnedLaw law w₀ table h) i ⊗ remaining ≈ b law i ⊗ complement (zeroShare w₀ table))
 
 -- "and the other severities over their own sum": f(y) times 1 - q is w(y)/W
 abbrev pub ThinnedSeverities : Type 0
 ThinnedSeverities = (w₀ : ℕ) (table : Severity) (y : ℕ)
-    → density table y ⊗ oneLess (zeroShare w₀ table) ≈ over (pos (weight table y)) (allWeight w₀ (table .weights)) (all-pos w₀ table)
+    → density table y ⊗ complement (zeroShare w₀ table) ≈ over (pos (weight table y)) (allWeight w₀ (table .weights)) (all-pos w₀ table)
 
 -- ---- what the curve computes
 -- "The divisor in row 0 becomes (D times W - A times w(0)) times x", over the factors of the job's own law
