@@ -3,7 +3,8 @@
 use mathlib.Core.Path.{sym, subst}
 use Rattle.algebra.specs.Fraction.{Fraction, _⊕_, _≼_}
 use Rattle.algebra.proofs.Value.{order, value, value-plus, value-le, le-of-value, value-eq, Within, within-value, of-within, ≼-trans}
-use Rattle.exact.specs.JobAmount.{givenLaw, jobTable}
+use Rattle.exact.specs.JobAmount.{givenLaw, jobTable, jobLaw}
+use Rattle.exact.proofs.Apart.{apart-then, constantSize, amounts-apart}
 use Rattle.exact.proofs.Limit.{finite-is-thinned, distribution-is-thinned}
 use Rattle.accuracy.specs.Zeros.{withZeros, EnclosesWithZeros, EnclosesLimitWithZeros}
 use Rattle.accuracy.proofs.Accuracy.{encloses}
@@ -19,12 +20,12 @@ encloses-with-zeros job weights lent ok one h p n ends (low, high) x l =
 
 pub encloses-limit-with-zeros : EnclosesLimitWithZeros
 encloses-limit-with-zeros job weights lent ok one h p count x l =
-    let law = givenLaw job weights h in
-    let (N, K, near) = distribution-is-thinned law one (job .zero) (jobTable job weights h) (h .thinned-pos) count p x in (
-      N,
+    let table = jobTable job weights h in
+    let (K, near) = distribution-is-thinned (givenLaw job weights h) one (job .zero) table (h .thinned-pos) count p x in (
       K,
-      λ n above start.
-          let inside = encloses job weights lent ok h x l (withZeros job weights h p n 0) (start .0) (start .1) in
-          let close = near n above in
-          (≼-trans (inside .0) (close .1), ≼-trans (close .0) (plus-mono _ (inside .1))),
+      constantSize (jobLaw job weights h) table x,
+      λ n p₀ e start close.
+          let inside = encloses job weights lent ok h x l p₀ (start .0) (start .1) in
+          let far = apart-then _ _ (amounts-apart (jobLaw job weights h) table x e (close .1, close .0)) (near n .1, near n .0) in
+          (≼-trans (inside .0) (far .0), ≼-trans (far .1) (plus-mono _ (inside .1))),
     )

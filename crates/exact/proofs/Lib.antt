@@ -9,6 +9,7 @@ pub mod Thinned
 pub mod Zeros
 pub mod Cut
 pub mod Sized
+pub mod Apart
 pub mod Difference
 pub mod Shrinking
 pub mod Limit

@@ -1,11 +1,10 @@
 -- The partial sums are, or come to, the thinned amounts, for what one claim more brings is nothing where the law ends, and shrinks where aq
 -- lies between -1 and 1. A distribution is one of both: with A zero or more a positive divisor says that aq is below 1, and with A below
 -- zero the count coefficients end.
-use mathlib.Core.Path.{_≡_, refl, sym, _∙_, ap, ap₂, subst}
+use mathlib.Core.Path.{_≡_, refl, sym, _∙_, ap, ap₂}
 use mathlib.Core.List.{[], _∷_}
 use Prim.Native.Nat.{ℕ, suc, _*_, _≤_, _<_}
 use native.Mathlib.Nat as NL
-use native.Mathlib.Omega.{arith}
 use lib.IntN.{ℤ, pos, negsuc, negℤ, natAbs, _+ℤ_, _-ℤ_, _*ℤ_}
 use lib.Signed.{_≤ℤ_}
 use Rattle.algebra.specs.Parts.{up}
@@ -13,14 +12,13 @@ use Rattle.algebra.specs.Semiring.{Semiring, nat}
 use Rattle.algebra.specs.Ring.{Ring, int}
 use Rattle.algebra.specs.Order.{OrderedRing}
 use Rattle.algebra.specs.Solver.{var, _:+_, _:*_, :-_}
-use Rattle.algebra.specs.Fraction.{Fraction, over, whole, _≼_}
+use Rattle.algebra.specs.Fraction.{Fraction, whole, _≼_}
 use Rattle.algebra.proofs.Semiring.{ring, ring-units, one-mul, zero-add}
 use Rattle.algebra.proofs.Ring.{int-pos, int-add, int-mul, neg-zero}
 use Rattle.algebra.proofs.Integer.{signed, split-le, split-add, split-neg, split-mul, split-size, ≤ℤ-dec}
 use Rattle.algebra.proofs.Order.{rewritten, neg-mono, nat-nonneg, cancel-le}
 use Rattle.algebra.proofs.Solver.{solve}
-use Rattle.algebra.proofs.Value.{order, ℚ, value, eq-of-value, value-eq, value-le, le-of-value, value-plus, value-zero, value-one}
-use Rattle.algebra.proofs.Value.{value-over, value-over-nat}
+use Rattle.algebra.proofs.Value.{order, ℚ, value, eq-of-value, value-eq, value-le, value-zero, value-one, value-over}
 use Rattle.model.specs.Weights.{allWeight, thinnedDivisor}
 use Rattle.exact.specs.Frequency.{Frequency, a, b, countCoefficient}
 use Rattle.exact.specs.Severity.{Severity}
@@ -28,11 +26,12 @@ use Rattle.exact.specs.Thinned.{lawDivisor}
 use Rattle.exact.specs.Zeros.{upToClaims, thinnedAmount, ComeTogether, FiniteIsThinned, LimitIsThinned, DistributionIsThinned}
 use Rattle.exact.proofs.Amount.{value-amount}
 use Rattle.exact.proofs.Recursion.{integer}
-use Rattle.exact.proofs.Sized.{Sized, sized-over, Shrinks, shrinks-zero, shrinks-shift}
+use Rattle.exact.proofs.Sized.{Shrinks, shrinks-shift}
+use Rattle.exact.proofs.Apart.{apart-over}
 use Rattle.exact.proofs.Zeros.{term, powerAll}
 use Rattle.exact.proofs.Cut.{f, P, claims, upTo, value-upToClaims, class-one}
 use Rattle.exact.proofs.Difference.{Negligible, thinned, difference, difference-negligible}
-use Rattle.exact.proofs.Shrinking.{shrinking, claims-shrink}
+use Rattle.exact.proofs.Shrinking.{shrinking, claims-end, claims-shrink}
 open OrderedRing order using (_⊑_)
 open Ring (order .ring) using (neg)
 open Semiring ℚ using (carrier as A, 𝟘, _⊹_, _·_)
@@ -59,31 +58,9 @@ module _ (law : Frequency) (one : law .order ≡ 1) (w₀ : ℕ) (table : Severi
       back : (g k : A) → g ≡ g ⊹ neg k ⊹ k
       back g k = solve (order .ring) (g ∷ k ∷ []) (var 0) (var 0 :+ :- var 1 :+ var 1) tt
 
-  -- u - v of at most k/(n+1) in size
-  within : (n k : ℕ) (u v : A) → Sized order (nat ℚ (suc n) · (u ⊹ neg v)) (nat ℚ k)
-      → (u ⊑ v ⊹ value (over (pos k) (suc n) (NL.zero-lt-suc n))) × (v ⊑ u ⊹ value (over (pos k) (suc n) (NL.zero-lt-suc n)))
-  within n k u v s = (
-    rewritten order (order .add-le v (d .most)) (solve (order .ring) (u ∷ v ∷ []) (var 0 :+ :- var 1 :+ var 1) (var 0) tt)
-        (ℚ .add-comm _ v),
-    rewritten order (order .add-le u (d .least)) (solve (order .ring) (u ∷ v ∷ []) (:- (var 0 :+ :- var 1) :+ var 0) (var 1) tt)
-        (ℚ .add-comm _ u),
-  )
-    where
-      d : Sized order (u ⊹ neg v) (value (over (pos k) (suc n) (NL.zero-lt-suc n)))
-      d = sized-over order (suc n) (NL.zero-lt-suc n) (subst (λ (w : A). Sized order (nat ℚ (suc n) · (u ⊹ neg v)) w)
-          (sym (value-over-nat k (suc n) (NL.zero-lt-suc n))) s)
-
   come-together : (x : ℕ) → Shrinks order (λ n. difference law one w₀ table h p n x) → ComeTogether law w₀ table h p x
   unfolding difference
-  come-together x s = (
-    s .from,
-    s .most,
-    (λ n l.
-        let near = within n (s .most) (G n x) (K n x) (s .sized n l) in (
-          le-of-value (rw (value-plus, value-upToClaims, value-thinned n x) (near .0)),
-          le-of-value (rw (value-plus, value-upToClaims, value-thinned n x) (near .1)),
-        )),
-  )
+  come-together x s = (s .most, λ n. apart-over n (s .most) (rw (value-upToClaims, value-thinned n x) (s .sized n)))
 
 -- ---- a law that ends: "negligible" is "zero at n"
 zero-at : (n : ℕ) → Negligible (λ u. u n ≡ 𝟘)
@@ -179,5 +156,5 @@ distribution-is-thinned law one w₀ table h chances p x = by (≤ℤ-dec (pos 0
     by : Dec (pos 0 ≤ℤ law .termA 1) → ComeTogether law w₀ table h p x
     by (yes l) = limit-is-thinned law one w₀ table h (below-one (law .termA 1) (law .divisor) w₀ (allWeight w₀ (table .weights)) l h) p x
     by (no l) = come-together law one w₀ table h p x (difference-negligible law one w₀ table h p shrinking
-        (λ z. shrinks-zero order (natAbs (law .termB 1)) _
-        (λ n k. no-claims law w₀ table p (suc n) z (ends law one (below (law .termA 1) l) chances (suc n) (omega arith)))) x)
+        (λ z. shrinks-shift order _ (claims-end law w₀ table p (natAbs (law .termB 1)) z
+        (λ n k. no-claims law w₀ table p n z (ends law one (below (law .termA 1) l) chances n k)))) x)

@@ -16,7 +16,7 @@ use Rattle.algebra.proofs.Semiring.{ring, ring-units, mul-left-comm, nat-one, n
 use Rattle.algebra.proofs.Order.{rewritten, nat-mono, cancel-eq}
 use Rattle.algebra.proofs.Solver.{solve}
 use Rattle.algebra.proofs.Sum.{sum-zero, sum-cong}
-use Rattle.algebra.proofs.Value.{order, ℚ, value, value-plus, value-times, value-nat, value-over, value-over-nat, value-upper}
+use Rattle.algebra.proofs.Value.{order, ℚ, value, value-plus, value-times, value-nat, value-over, value-over-nat}
 use Rattle.model.specs.Weights.{allWeight}
 use Rattle.exact.specs.Frequency.{Frequency, a, b}
 use Rattle.exact.specs.Severity.{Severity}
@@ -25,7 +25,8 @@ use Rattle.exact.specs.Zeros.{densityWithZero, ofClaims}
 use Rattle.exact.proofs.Convolution.{convolve}
 use Rattle.exact.proofs.Recursion.{integer, cleared}
 use Rattle.exact.proofs.Sized.{Sized, sized-mono, sized-add, sized-mul, sized-nat, sized-int, sized-over}
-use Rattle.exact.proofs.Sized.{Shrinks, shrinks-same, shrinks-zero, shrinks-plus, shrinks-times, shrinks-next}
+use Rattle.exact.proofs.Sized.{Shrinks, shrinks-same, shrinks-zero, shrinks-plus, shrinks-times, shrinks-end, shrinks-next}
+use Rattle.exact.proofs.Apart.{sized-value}
 use Rattle.exact.proofs.Zeros.{term, powerAll, convolveAll, factor, theorem-apart}
 use Rattle.exact.proofs.Cut.{f, P, claims, value-ofClaims, class-one, claims-value}
 use Rattle.exact.proofs.Difference.{Negligible, negligible-sum, negligible-over}
@@ -35,22 +36,27 @@ open Semiring ℚ using (carrier as A, 𝟘, 𝟙, _⊹_, _·_)
 infixl 6 _⊹_
 infixl 7 _·_
 -- ---- shrinking is negligible
-sized-value : (x : Fraction) → Sized order (value x) (nat ℚ (natAbs (x .upper)))
-sized-value x = sized-over order (x .lower) (x .lower-pos) (subst (λ (v : A). Sized order v (nat ℚ (x .lower) · nat ℚ (natAbs (x .upper))))
-    (sym (value-upper x)) (sized-mono order (sized-int order (x .upper))
-    (rewritten order (nat-mono order {n = x .lower * natAbs (x .upper)} (large (x .lower) (natAbs (x .upper)) (x .lower-pos))) refl
-    (nat-mul ℚ (x .lower) (natAbs (x .upper))))))
-  where
-    large : (n m : ℕ) → 1 ≤ n → m ≤ n * m
-    large n m l = omega (arith, NL.mul-le-mul-right m l)
-
 pub shrinking : Negligible (Shrinks order)
 shrinking = record {
   same = shrinks-same order;
-  nothing = shrinks-zero order 0 (λ n. 𝟘) (λ n l. refl);
+  nothing = shrinks-zero order;
   plus = shrinks-plus order;
   times = λ c u s. shrinks-times order (value c) (natAbs (c .upper)) u (sized-value c) s;
 }
+
+-- ---- what n claims bring
+module _ (law : Frequency) (w₀ : ℕ) (table : Severity) (p : Fraction) where
+  claimsSize : ℕ → ℕ → ℕ
+  claimsSize x n = natAbs (ofClaims law w₀ table p n x .upper)
+
+  size : (x n : ℕ) → Sized order (claims law w₀ table p n x) (nat ℚ (claimsSize x n))
+  unfolding claimsSize
+  size x n = subst (λ (v : A). Sized order v (nat ℚ (natAbs (ofClaims law w₀ table p n x .upper)))) (value-ofClaims law w₀ table p n x)
+      (sized-value (ofClaims law w₀ table p n x))
+
+  -- nothing from some n on
+  pub claims-end : (from x : ℕ) → ((n : ℕ) → from ≤ n → claims law w₀ table p n x ≡ 𝟘) → Shrinks order (λ n. claims law w₀ table p n x)
+  claims-end from x e = shrinks-end order (λ n. claims law w₀ table p n x) (claimsSize x) (size x) from e
 
 -- ---- where aq lies between -1 and 1
 module _ (law : Frequency) (one : law .order ≡ 1) (w₀ : ℕ) (table : Severity) (p : Fraction)
@@ -81,10 +87,6 @@ module _ (law : Frequency) (one : law .order ≡ 1) (w₀ : ℕ) (table : Severi
       (value-over (law .termA 1) (law .divisor) (law .divisor-pos)) (value-over (law .termB 1) (law .divisor) (law .divisor-pos))
       (value-over-nat w₀ (allWeight w₀ (table .weights)) (all-pos w₀ table))
       ∙ ℚ .mul-one _
-
-  size : (x n : ℕ) → Sized order (T n x) (nat ℚ (natAbs (ofClaims law w₀ table p n x .upper)))
-  size x n = subst (λ (v : A). Sized order v (nat ℚ (natAbs (ofClaims law w₀ table p n x .upper)))) (value-ofClaims law w₀ table p n x)
-      (sized-value (ofClaims law w₀ table p n x))
 
   -- ---- at total 0
   -- (a + b/(n+1)) q
@@ -136,7 +138,7 @@ module _ (law : Frequency) (one : law .order ≡ 1) (w₀ : ℕ) (table : Severi
 
   first-shrinks : Shrinks order (λ n. T n 0)
   first-shrinks = shrinks-next order (λ n. T n 0) (λ n. 𝟘) ratio (2 * M - 1) (2 * (natAbs (law .termB 1) * w₀))
-      (λ n _. first-next n) first-ratio (shrinking .nothing) (λ n. natAbs (ofClaims law w₀ table p n 0 .upper)) (size 0)
+      (λ n _. first-next n) first-ratio (shrinking .nothing) (claimsSize law w₀ table p 0) (size law w₀ table p 0)
 
   -- ---- at a later total
   single : suc (M - 1) ≡ M
@@ -192,7 +194,7 @@ module _ (law : Frequency) (one : law .order ≡ 1) (w₀ : ℕ) (table : Severi
       (negligible-over shrinking (suc x) (NL.zero-lt-suc x) (earlier (suc x)) _ (earlier-sum (suc x))
       (negligible-sum shrinking (suc x) (λ y n. value (part (suc x) y) · T n (suc x - suc y)) (λ y l.
       shrinking .times (part (suc x) y) (λ n. T n (suc x - suc y)) (before (suc x - suc y) (omega arith)))))
-      (λ n. natAbs (ofClaims law w₀ table p n (suc x) .upper)) (size (suc x))
+      (claimsSize law w₀ table p (suc x)) (size law w₀ table p (suc x))
 
   pub claims-shrink : (x : ℕ) → Shrinks order (λ n. T n x)
   claims-shrink = strong (λ x. Shrinks order (λ n. T n x)) step

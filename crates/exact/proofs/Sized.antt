@@ -2,7 +2,8 @@
 -- number in the next is a part of it below 1, so from some n on the part that goes outweighs what 1/n loses in a step.
 use mathlib.Core.Path.{_≡_, refl, sym, _∙_, ap, subst, subst₂}
 use mathlib.Core.List.{[], _∷_}
-use Prim.Native.Nat.{ℕ, zero, suc, _+_, _*_, _-_, _≤_}
+use Prim.Native.Nat.{ℕ, zero, suc, _+_, _*_, _-_, _≤_, zero-le}
+use native.Mathlib.Decide.{decLe}
 use native.Mathlib.Nat as NL
 use native.Mathlib.Omega.{arith}
 use lib.IntN.{ℤ, pos, negsuc, natAbs}
@@ -93,54 +94,66 @@ module _ (O : OrderedRing) where
   }
 
   -- ---- sequences that shrink at least as 1/n
-  -- from some n on, (n + 1) u(n) is at most a whole number in size
+  -- (n + 1) u(n) is at most a whole number in size
   pub record Shrinks (u : ℕ → A) : Type 0 where
-    pub from : ℕ
     pub most : ℕ
-    pub sized : (n : ℕ) → from ≤ n → Sized (nat S (suc n) · u n) (nat S most)
+    pub sized : (n : ℕ) → Sized (nat S (suc n) · u n) (nat S most)
 
   pub shrinks-same : (u v : ℕ → A) → ((n : ℕ) → u n ≡ v n) → Shrinks u → Shrinks v
   shrinks-same u v e s = record {
-    from = s .from;
     most = s .most;
-    sized = λ n l. subst (λ (w : A). Sized (nat S (suc n) · w) (nat S (s .most))) (e n) (s .sized n l);
+    sized = λ n. subst (λ (w : A). Sized (nat S (suc n) · w) (nat S (s .most))) (e n) (s .sized n);
   }
 
-  -- zero from some n on
-  pub shrinks-zero : (from : ℕ) (u : ℕ → A) → ((n : ℕ) → from ≤ n → u n ≡ 𝟘) → Shrinks u
-  shrinks-zero from u e = record {
-    from = from;
-    most = 0;
-    sized = λ n l. subst (λ (w : A). Sized w (nat S 0)) (sym (ap (λ (v : A). nat S (suc n) · v) (e n l) ∙ S .mul-zero (nat S (suc n))))
-        (sized-zero 0);
-  }
+  sized-none : (k n : ℕ) {u : A} → u ≡ 𝟘 → Sized (nat S (suc n) · u) (nat S k)
+  sized-none k n e = subst (λ (w : A). Sized w (nat S k)) (sym (ap (λ (v : A). nat S (suc n) · v) e ∙ S .mul-zero (nat S (suc n))))
+      (sized-zero k)
+
+  pub shrinks-zero : Shrinks (λ n. 𝟘)
+  shrinks-zero = record { most = 0; sized = λ n. sized-none 0 n refl }
 
   pub shrinks-plus : (u v : ℕ → A) → Shrinks u → Shrinks v → Shrinks (λ n. u n ⊹ v n)
   shrinks-plus u v s t = record {
-    from = s .from + t .from;
     most = s .most + t .most;
-    sized = λ n l. subst₂ Sized (sym (S .mul-add (nat S (suc n)) (u n) (v n))) (sym (nat-add S (s .most) (t .most)))
-        (sized-add (s .sized n (omega arith)) (t .sized n (omega arith)));
+    sized = λ n. subst₂ Sized (sym (S .mul-add (nat S (suc n)) (u n) (v n))) (sym (nat-add S (s .most) (t .most)))
+        (sized-add (s .sized n) (t .sized n));
   }
 
   pub shrinks-times : (c : A) (k : ℕ) (u : ℕ → A) → Sized c (nat S k) → Shrinks u → Shrinks (λ n. c · u n)
   shrinks-times c k u h s = record {
-    from = s .from;
     most = k * s .most;
-    sized = λ n l. subst₂ Sized (mul-left-comm S c (nat S (suc n)) (u n)) (sym (nat-mul S k (s .most))) (sized-mul h (s .sized n l));
+    sized = λ n. subst₂ Sized (mul-left-comm S c (nat S (suc n)) (u n)) (sym (nat-mul S k (s .most))) (sized-mul h (s .sized n));
   }
 
   -- one place further
   pub shrinks-shift : (u : ℕ → A) → Shrinks u → Shrinks (λ n. u (suc n))
   shrinks-shift u s = record {
-    from = s .from;
     most = s .most;
-    sized = λ n l. sized-over (suc (suc n)) (NL.zero-lt-suc (suc n))
+    sized = λ n. sized-over (suc (suc n)) (NL.zero-lt-suc (suc n))
         (subst₂ Sized (mul-left-comm S (nat S (suc n)) (nat S (suc (suc n))) (u (suc n))) refl
-        (sized-mono (sized-mul (sized-nat (suc n)) (s .sized (suc n) (omega arith)))
+        (sized-mono (sized-mul (sized-nat (suc n)) (s .sized (suc n)))
         (rewritten O (nat-mono O {n = suc (suc n) * s .most} (NL.mul-le-mul-right (s .most) (omega arith)))
         (nat-mul S (suc n) (s .most)) (nat-mul S (suc (suc n)) (s .most)))));
   }
+
+  -- where each number is at most a whole number in size, the first ones are at most one all together, and only later ones matter
+  module _ (u : ℕ → A) (size : ℕ → ℕ) (sized : (n : ℕ) → Sized (u n) (nat S (size n))) where
+    pub shrinks-from : (from most : ℕ) → ((n : ℕ) → from ≤ n → Sized (nat S (suc n) · u n) (nat S most)) → Shrinks u
+    shrinks-from zero most h = record { most = most; sized = λ n. h n zero-le }
+    shrinks-from (suc from) most h = shrinks-from from (most + suc from * size from) (λ n l. by n l (decLe (suc from) n))
+      where
+        here : (n : ℕ) → from ≤ n → ¬ (suc from ≤ n) → from ≡ n
+        here n l f = omega arith
+
+        by : (n : ℕ) → from ≤ n → Dec (suc from ≤ n) → Sized (nat S (suc n) · u n) (nat S (most + suc from * size from))
+        by n l (yes k) = sized-mono (h n k) (nat-mono O (NL.le-add-right most (suc from * size from)))
+        by n l (no f) = subst (λ (m : ℕ). Sized (nat S (suc m) · u m) (nat S (most + suc from * size from))) (here n l f)
+            (sized-mono (sized-mul (sized-nat (suc from)) (sized from))
+            (rewritten O (nat-mono O (NL.le-add-left (suc from * size from) most)) (nat-mul S (suc from) (size from)) refl))
+
+    -- zero from some n on
+    pub shrinks-end : (from : ℕ) → ((n : ℕ) → from ≤ n → u n ≡ 𝟘) → Shrinks u
+    shrinks-end from e = shrinks-from from 0 (λ n l. sized-none 0 n (e n l))
 
   -- s(n + 1) is ρ s(n) and something that shrinks, with ρ at most d/(d + 1) in size: then (n + 1) s(n) stays below K, where that is
   -- at least 2 (d + 1) times the bound of what is added
@@ -148,7 +161,7 @@ module _ (O : OrderedRing) where
       (ratio : (n : ℕ) → n₀ ≤ n → Sized (nat S (suc d) · ρ n) (nat S d)) (added : Shrinks u)
       (size : ℕ → ℕ) (sized : (n : ℕ) → Sized (s n) (nat S (size n))) where
     from : ℕ
-    from = n₀ + added .from + 2 * suc d
+    from = n₀ + 2 * suc d
 
     bound : ℕ
     bound = suc from * size from + 2 * suc d * added .most
@@ -169,7 +182,7 @@ module _ (O : OrderedRing) where
         ∙ ap (λ (v : A). v · (nat S (suc (suc n)) · s (suc n))) (sym (nat-mul S (suc d) (suc n))))
         refl
         (sized-mono (sized-mul (sized-nat (suc (suc n))) (sized-add (sized-mul (ratio n (omega arith)) h)
-        (sized-mul (sized-nat (suc d)) (added .sized n (omega arith)))))
+        (sized-mul (sized-nat (suc d)) (added .sized n))))
         (rewritten O (nat-mono O (room d n bound (added .most) (omega arith) (omega arith))) (simp (nat-mul, nat-add))
         (nat-mul S (suc d * suc n) bound))))
       where
@@ -181,8 +194,5 @@ module _ (O : OrderedRing) where
     stays (suc k) = rw NL.suc-add (step (k + from) (NL.le-add-left from k) (stays k))
 
     pub shrinks-next : Shrinks s
-    shrinks-next = record {
-      from = from;
-      most = bound;
-      sized = λ n l. subst (λ (m : ℕ). Sized (nat S (suc m) · s m) (nat S bound)) (NL.sub-add-cancel l) (stays (n - from));
-    }
+    shrinks-next = shrinks-from s size sized from bound
+        (λ n l. subst (λ (m : ℕ). Sized (nat S (suc m) · s m) (nat S bound)) (NL.sub-add-cancel l) (stays (n - from)))

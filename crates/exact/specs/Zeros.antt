@@ -63,9 +63,9 @@ FiniteIsThinned = (law : Frequency) → law .order ≡ 1
 abbrev pub Apart : Fraction → Fraction → Fraction → Type 0
 Apart e x y = (x ≼ y ⊕ e) × (y ≼ x ⊕ e)
 
--- the partial sums and the thinned amounts come together: from some n on they are at most K/(n+1) apart
+-- the partial sums and the thinned amounts come together: they differ by at most a constant over n + 1
 abbrev pub ComeTogether : (law : Frequency) (w₀ : ℕ) (table : Severity) → 1 ≤ lawDivisor law w₀ table → Fraction → ℕ → Type 0
-ComeTogether law w₀ table h p x = (N K : ℕ) × ((n : ℕ) → N ≤ n → Apart (over (pos K) (suc n) (NL.zero-lt-suc n))
+ComeTogether law w₀ table h p x = (K : ℕ) × ((n : ℕ) → Apart (over (pos K) (suc n) (NL.zero-lt-suc n))
     (upToClaims law w₀ table p n x) (thinnedAmount law w₀ table h (upToClaims law w₀ table p n 0) x))
 
 -- where aq lies between -1 and 1
@@ -73,7 +73,7 @@ abbrev pub LimitIsThinned : Type 0
 LimitIsThinned = (law : Frequency) → law .order ≡ 1 → (w₀ : ℕ) (table : Severity) (h : 1 ≤ lawDivisor law w₀ table)
     → natAbs (law .termA 1) * w₀ < law .divisor * allWeight w₀ (table .weights) → (p : Fraction) (x : ℕ) → ComeTogether law w₀ table h p x
 
--- and for every law of order 1 that is a distribution: no count coefficient is below zero
+-- and where no count coefficient is below zero, as is so of every distribution
 abbrev pub DistributionIsThinned : Type 0
 DistributionIsThinned = (law : Frequency) → law .order ≡ 1 → (w₀ : ℕ) (table : Severity) (h : 1 ≤ lawDivisor law w₀ table)
     → ((n : ℕ) → whole (pos 0) ≼ countCoefficient law n) → (p : Fraction) (x : ℕ) → ComeTogether law w₀ table h p x
