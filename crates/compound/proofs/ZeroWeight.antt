@@ -43,7 +43,8 @@ module _ (job : Job) (weights : List ℕ) (none : job .zero ≡ 0) where
       ∙ first-fails _ _ (ne-eqb (jobDivisor job weights) 0 (omega (arith, thinned)))
       ∙ first-fails _ _ (ne-eqb (totalWeight weights) 0 (omega (arith, total)))
 
-  without : (rest : List Condition) → firstOf (jobChecks job weights ++ (zeroChecks job weights ++ rest)) ≡ firstOf (jobChecks job weights ++ rest)
+  without : (rest : List Condition)
+      → firstOf (jobChecks job weights ++ (zeroChecks job weights ++ rest)) ≡ firstOf (jobChecks job weights ++ rest)
   without rest = first-same (jobChecks job weights) (zeroChecks job weights ++ rest) rest (λ fails. not-refused fails rest)
 
   answer : (lent : Lent) → curveAnswer job weights lent ≡ firstOf (jobChecks job weights ++ (roomChecks job lent ++ faults job weights))
