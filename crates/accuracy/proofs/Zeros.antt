@@ -1,5 +1,5 @@
--- By `Encloses`. With at most n claims the starting chance is the chance of total 0, for the amounts with zeros are those of the thinned law
--- from there. Otherwise they come to these as n grows, and these are near those of a starting chance near it, which the start allows.
+-- By `Encloses`. With at most n claims the starting chance is the chance of total 0, for the amounts with zeros are those of the thinned
+-- law from there. Otherwise they come to these as n grows, and these are near those of a starting chance near it, which the start allows.
 use mathlib.Core.Path.{sym, subst}
 use Rattle.algebra.proofs.Value.{value-eq, Within, within-value, of-within, ≼-trans, plus-mono}
 use Rattle.exact.specs.JobAmount.{givenLaw, jobTable, jobLaw}
