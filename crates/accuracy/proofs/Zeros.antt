@@ -1,16 +1,12 @@
--- By `Encloses` for the chance of total 0 as the starting chance, since the amounts with zeros are those of the thinned law from there, or
--- come as near to them as one likes.
+-- By `Encloses`. With at most n claims the starting chance is the chance of total 0, for the amounts with zeros are those of the thinned
+-- law from there. Otherwise they come to these as n grows, and these are near those of a starting chance near it, which the start allows.
 use mathlib.Core.Path.{sym, subst}
-use Rattle.algebra.specs.Fraction.{Fraction, _⊕_, _≼_}
-use Rattle.algebra.proofs.Value.{order, value, value-plus, value-le, le-of-value, value-eq, Within, within-value, of-within, ≼-trans}
+use Rattle.algebra.proofs.Value.{value-eq, Within, within-value, of-within, ≼-trans, plus-mono}
 use Rattle.exact.specs.JobAmount.{givenLaw, jobTable, jobLaw}
 use Rattle.exact.proofs.Apart.{apart-then, constantSize, amounts-apart}
 use Rattle.exact.proofs.Limit.{finite-is-thinned, distribution-is-thinned}
 use Rattle.accuracy.specs.Zeros.{withZeros, EnclosesWithZeros, EnclosesLimitWithZeros}
 use Rattle.accuracy.proofs.Accuracy.{encloses}
-
-plus-mono : {x y : Fraction} (e : Fraction) → x ≼ y → x ⊕ e ≼ y ⊕ e
-plus-mono {x} {y} e h = le-of-value (rw (value-plus x e, value-plus y e) (order .add-le (value e) (value-le h)))
 
 pub encloses-with-zeros : EnclosesWithZeros
 encloses-with-zeros job weights lent ok one h p n ends (low, high) x l =

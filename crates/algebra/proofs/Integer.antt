@@ -105,6 +105,11 @@ split-size (negsuc n) = omega arith
 -- `omega signed` reads orders and equations over ℤ; the sums and products in them are listed: `omega (signed, split-add a b)`
 pub ruleset signed = (arith, split-le, split-lt, split-eq, le-of-split, lt-of-split, eq-of-split)
 
+-- what is above zero at all is at least 1
+pub up-least : (z : ℤ) → 1 ≤ up z → pos 1 ≤ℤ z
+up-least (pos n) h = omega signed
+up-least (negsuc n) h = absurd (NL.not-suc-le-zero h)
+
 -- natural numbers keep their order
 pub pos-mono : {m n : ℕ} → m ≤ n → pos m ≤ℤ pos n
 pos-mono h = omega signed

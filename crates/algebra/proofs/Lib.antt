@@ -10,6 +10,7 @@ pub mod Ring
 pub mod Solver
 pub mod Or
 pub mod Order
+pub mod Sized
 pub mod Alternating
 pub mod Rational
 pub mod Value

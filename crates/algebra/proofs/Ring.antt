@@ -1,6 +1,7 @@
 -- Derived laws of commutative rings: negatives, and the integers in a ring, which are added and multiplied as they are in ℤ.
 use mathlib.Core.Path.{_≡_, refl, sym, _∙_, ap, ap₂}
-use Prim.Native.Nat.{ℕ, suc}
+use Prim.Native.Nat.{ℕ, suc, _≤_}
+use native.Mathlib.Nat as NL
 use lib.IntN.{ℤ, pos, negsuc, negℤ, _+ℤ_, _*ℤ_}
 use Rattle.algebra.specs.Parts.{up, down}
 use Rattle.algebra.specs.Semiring.{Semiring, nat}
@@ -61,6 +62,11 @@ module _ (R : Ring) where
   pub int-pos : (m : ℕ) → int R (pos m) ≡ nat (R .semiring) m
   unfolding int
   int-pos m = refl
+
+  -- and an integer above zero is its part above zero
+  pub int-up : (z : ℤ) → 1 ≤ up z → nat (R .semiring) (up z) ≡ int R z
+  int-up (pos m) h = sym (int-pos m)
+  int-up (negsuc m) h = absurd (NL.not-suc-le-zero h)
 
   -- an integer in the ring, by its parts
   int-split : (z : ℤ) → int R z ≡ n (up z) ⊹ neg (n (down z))

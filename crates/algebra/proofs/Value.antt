@@ -189,6 +189,9 @@ pub within-neg : {a b : ℤ} {u : A} → Within a b u → Within (negℤ b) (neg
 within-neg p = record { below = rw int-neg (neg-mono order (p .above)); above = rw int-neg (neg-mono order (p .below)) }
 
 -- amounts in order, sums in order
+pub plus-mono : {x y : Fraction} (e : Fraction) → x ≼ y → x ⊕ e ≼ y ⊕ e
+plus-mono {x} {y} e h = le-of-value (rw (value-plus x e, value-plus y e) (order .add-le (value e) (value-le h)))
+
 pub zeroTo-mono : (n : ℕ) (f g : ℕ → Fraction) → ((i : ℕ) → i ≤ n → f i ≼ g i) → zeroTo n f ≼ zeroTo n g
 zeroTo-mono n f g h = le-of-value (rewritten order (sum-mono order (suc n) (λ i l. value-le (h i (omega arith))))
     (sym (value-zeroTo n f)) (sym (value-zeroTo n g)))

@@ -18,7 +18,7 @@ use Rattle.exact.specs.Frequency.{Frequency, countCoefficient}
 use Rattle.exact.specs.Severity.{Severity, density, convolution}
 use Rattle.exact.specs.Amount.{exactAmount}
 use Rattle.exact.specs.Zeros.{Apart}
-use Rattle.exact.proofs.Sized.{Sized, sized-mono, sized-add, sized-mul, sized-int, sized-over}
+use Rattle.algebra.proofs.Sized.{Sized, sized-mono, sized-add, sized-mul, sized-int, sized-over}
 open Ring (order .ring) using (neg)
 open Semiring ℚ using (carrier as A, _⊹_, _·_)
 

@@ -17,7 +17,7 @@ use Rattle.exact.specs.Zeros.{densityWithZero, convolutionWithZero, ofCl
 use Rattle.exact.proofs.Convolution.{convolve, power}
 use Rattle.exact.proofs.Frequency.{count-class}
 use Rattle.exact.proofs.Amount.{value-convolution}
-use Rattle.exact.proofs.Zeros.{convolveAll, convolveAll-sum, powerAll, term, partial, factor, theorem, term-next, partial-next}
+use Rattle.exact.proofs.Theorem9.{convolveAll, convolveAll-sum, powerAll, term, partial, factor, theorem, term-next, partial-next}
 open Semiring ℚ using (carrier as A, _⊹_, _·_)
 
 infixl 6 _⊹_

@@ -27,7 +27,7 @@ use Rattle.exact.specs.Zeros.{weightWithZero, densityWithZero, upToClaim
 use Rattle.exact.proofs.Amount.{valueRow}
 use Rattle.exact.proofs.Recursion.{integer, cleared, int-factor, weight-past, first-value}
 use Rattle.exact.proofs.Thinned.{law-divisor, thinned-recursion-value}
-use Rattle.exact.proofs.Zeros.{partial, factor, theorem}
+use Rattle.exact.proofs.Theorem9.{partial, factor, theorem}
 use Rattle.exact.proofs.Cut.{f, claims, upTo, value-upToClaims, cut-value}
 open Ring (order .ring) using (neg)
 open Semiring ℚ using (carrier as A, 𝟘, _⊹_, _·_)

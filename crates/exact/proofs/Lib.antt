@@ -6,9 +6,8 @@ pub mod Frequency
 pub mod Amount
 pub mod Recursion
 pub mod Thinned
-pub mod Zeros
+pub mod Theorem9
 pub mod Cut
-pub mod Sized
 pub mod Apart
 pub mod Difference
 pub mod Shrinking

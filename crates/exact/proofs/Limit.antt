@@ -7,7 +7,6 @@ use Prim.Native.Nat.{ℕ, suc, _*_, _≤_, _<_}
 use native.Mathlib.Nat as NL
 use lib.IntN.{ℤ, pos, negsuc, negℤ, natAbs, _+ℤ_, _-ℤ_, _*ℤ_}
 use lib.Signed.{_≤ℤ_}
-use Rattle.algebra.specs.Parts.{up}
 use Rattle.algebra.specs.Semiring.{Semiring, nat}
 use Rattle.algebra.specs.Ring.{Ring, int}
 use Rattle.algebra.specs.Order.{OrderedRing}
@@ -15,7 +14,7 @@ use Rattle.algebra.specs.Solver.{var, _:+_, _:*_, :-_}
 use Rattle.algebra.specs.Fraction.{Fraction, whole, _≼_}
 use Rattle.algebra.proofs.Semiring.{ring, ring-units, one-mul, zero-add}
 use Rattle.algebra.proofs.Ring.{int-pos, int-add, int-mul, neg-zero}
-use Rattle.algebra.proofs.Integer.{signed, split-le, split-add, split-neg, split-mul, split-size, ≤ℤ-dec}
+use Rattle.algebra.proofs.Integer.{signed, split-le, split-add, split-neg, split-mul, split-size, up-least, ≤ℤ-dec}
 use Rattle.algebra.proofs.Order.{rewritten, neg-mono, nat-nonneg, cancel-le}
 use Rattle.algebra.proofs.Solver.{solve}
 use Rattle.algebra.proofs.Value.{order, ℚ, value, eq-of-value, value-eq, value-le, value-zero, value-one, value-over}
@@ -26,9 +25,9 @@ use Rattle.exact.specs.Thinned.{lawDivisor}
 use Rattle.exact.specs.Zeros.{upToClaims, thinnedAmount, ComeTogether, FiniteIsThinned, LimitIsThinned, DistributionIsThinned}
 use Rattle.exact.proofs.Amount.{value-amount}
 use Rattle.exact.proofs.Recursion.{integer}
-use Rattle.exact.proofs.Sized.{Shrinks, shrinks-shift}
+use Rattle.algebra.proofs.Sized.{Shrinks, shrinks-shift}
 use Rattle.exact.proofs.Apart.{apart-over}
-use Rattle.exact.proofs.Zeros.{term, powerAll}
+use Rattle.exact.proofs.Theorem9.{term, powerAll}
 use Rattle.exact.proofs.Cut.{f, P, claims, upTo, value-upToClaims, class-one}
 use Rattle.exact.proofs.Difference.{Negligible, thinned, difference, difference-negligible}
 use Rattle.exact.proofs.Shrinking.{shrinking, claims-end, claims-shrink}
@@ -87,10 +86,6 @@ limit-is-thinned law one w₀ table h inside p x = come-together law one w₀ ta
     (difference-negligible law one w₀ table h p shrinking (λ z. shrinks-shift order _ (claims-shrink law one w₀ table p inside z)) x)
 
 -- ---- distributions, with A zero or more
-up-least : (z : ℤ) → 1 ≤ up z → pos 1 ≤ℤ z
-up-least (pos n) h = omega signed
-up-least (negsuc n) h = absurd (NL.not-suc-le-zero h)
-
 below-one : (z : ℤ) (D w₀ W : ℕ) → pos 0 ≤ℤ z → 1 ≤ thinnedDivisor D z w₀ W → natAbs z * w₀ < D * W
 below-one (pos m) D w₀ W l h = omega (
   signed,

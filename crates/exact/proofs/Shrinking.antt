@@ -24,10 +24,10 @@ use Rattle.exact.specs.Thinned.{all-pos}
 use Rattle.exact.specs.Zeros.{densityWithZero, ofClaims}
 use Rattle.exact.proofs.Convolution.{convolve}
 use Rattle.exact.proofs.Recursion.{integer, cleared}
-use Rattle.exact.proofs.Sized.{Sized, sized-mono, sized-add, sized-mul, sized-nat, sized-int, sized-over}
-use Rattle.exact.proofs.Sized.{Shrinks, shrinks-same, shrinks-zero, shrinks-plus, shrinks-times, shrinks-end, shrinks-next}
+use Rattle.algebra.proofs.Sized.{Sized, sized-mono, sized-add, sized-mul, sized-nat, sized-int, sized-over}
+use Rattle.algebra.proofs.Sized.{Shrinks, shrinks-same, shrinks-zero, shrinks-plus, shrinks-times, shrinks-end, shrinks-next}
 use Rattle.exact.proofs.Apart.{sized-value}
-use Rattle.exact.proofs.Zeros.{term, powerAll, convolveAll, factor, theorem-apart}
+use Rattle.exact.proofs.Theorem9.{term, powerAll, convolveAll, factor, theorem-apart}
 use Rattle.exact.proofs.Cut.{f, P, claims, value-ofClaims, class-one, claims-value}
 use Rattle.exact.proofs.Difference.{Negligible, negligible-sum, negligible-over}
 open Ring (order .ring) using (neg)

@@ -5,10 +5,9 @@ use mathlib.Core.List.{[], _∷_}
 use Prim.Native.Nat.{ℕ, zero, suc, _+_, _-_, _*_, _≤_, _<_, min}
 use native.Mathlib.Nat as NL
 use native.Mathlib.Omega.{arith}
-use lib.IntN.{ℤ, pos, negsuc, negℤ, _-ℤ_, _*ℤ_}
+use lib.IntN.{ℤ, pos, negℤ, _-ℤ_, _*ℤ_}
 use lib.Signed.{_≤ℤ_}
 use lib.ListN.{length}
-use Rattle.algebra.specs.Parts.{up}
 use Rattle.algebra.specs.Semiring.{Semiring, nat}
 use Rattle.algebra.specs.Ring.{Ring}
 use Rattle.algebra.specs.Order.{OrderedRing}
@@ -16,7 +15,7 @@ use Rattle.algebra.specs.Sum.{sum}
 use Rattle.algebra.specs.Solver.{var, null, unit, _:+_, _:*_, :-_}
 use Rattle.algebra.specs.Fraction.{Fraction, over}
 use Rattle.algebra.proofs.Semiring.{ring, nat-zero, nat-add, nat-mul}
-use Rattle.algebra.proofs.Ring.{int-pos, int-neg, int-add, int-mul}
+use Rattle.algebra.proofs.Ring.{int-pos, int-up, int-neg, int-add, int-mul}
 use Rattle.algebra.proofs.Induction.{strong}
 use Rattle.algebra.proofs.Integer.{integers, signed, split-le, split-add, split-neg, split-mul}
 use Rattle.algebra.proofs.Order.{rewritten, mul-mono, nat-nonneg, cancel-eq}
@@ -92,15 +91,11 @@ thinned-divisor-large D A w₀ weights h = omega (
   NL.mul-le-mul-right w₀ (split-le h),
 )
 
-int-up : (z : ℤ) → 1 ≤ up z → nat ℚ (up z) ≡ integer z
-int-up (pos n) h = sym (int-pos (order .ring) n)
-int-up (negsuc n) h = absurd (NL.not-suc-le-zero h)
-
 pub law-divisor : (law : Frequency) (w₀ : ℕ) (table : Severity) → 1 ≤ lawDivisor law w₀ table
     → nat ℚ (lawDivisor law w₀ table)
     ≡ nat ℚ (law .divisor) · nat ℚ (allWeight w₀ (table .weights)) ⊹ neg (integer (law .termA 1) · nat ℚ w₀)
 law-divisor law w₀ table h =
-    int-up _ h ∙ int-add (order .ring) (pos (law .divisor * allWeight w₀ (table .weights))) (negℤ (law .termA 1 *ℤ pos w₀))
+    int-up (order .ring) _ h ∙ int-add (order .ring) (pos (law .divisor * allWeight w₀ (table .weights))) (negℤ (law .termA 1 *ℤ pos w₀))
     ∙ ap₂ _⊹_ (int-pos (order .ring) _ ∙ nat-mul ℚ (law .divisor) (allWeight w₀ (table .weights)))
     (int-neg (order .ring) (law .termA 1 *ℤ pos w₀) ∙ ap neg (int-mul (order .ring) (law .termA 1) (pos w₀)
     ∙ ap (λ (u : A). integer (law .termA 1) · u) (int-pos (order .ring) w₀)))
