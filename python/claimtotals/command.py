@@ -36,9 +36,10 @@ def known_sheet(path: str) -> Sheet:
     return read_sheet(sheet_bytes(path))
 
 
-def remark(path: str, sheet: Sheet, sentence: Optional[str]) -> None:
-    if sentence:
-        streams.say(COMMAND, f"{streams.source(path)}: {sentence}{about_start(sheet.job.zero)}")
+def remark(path: str, *sentences: Optional[str]) -> None:
+    """Those that are due."""
+    if any(sentences):
+        streams.say(COMMAND, f"{streams.source(path)}: {' '.join(filter(None, sentences))}")
 
 
 # ---- start
@@ -143,7 +144,7 @@ def table(given: argparse.Namespace) -> int:
     sheet = known_sheet(given.sheet)
     curve = sheet.curve()
     streams.write_output(table_text(curve, given).encode())
-    remark(given.sheet, sheet, about_sums(curve.low, curve.high))
+    remark(given.sheet, about_sums(curve.low, curve.high), about_start(curve.high, sheet.job.zero))
     return streams.SUCCESS
 
 
@@ -187,19 +188,26 @@ def refusals_told(about: str, answers: dict[str, TotalOrRefusal]) -> list[str]:
     return [refusal.of(f"{about}, {query}") for query, refusal in refusals]
 
 
+def is_short(answer: TotalOrRefusal) -> bool:
+    """Whether the table falls short of the level."""
+    return isinstance(answer, Refused) and answer.number in (34, 35)
+
+
 def level(given: argparse.Namespace) -> int:
-    """Every level is asked, also after one that is refused."""
-    sheet, lines, sentences = known_sheet(given.sheet), [], []
+    """Every level is asked, also after one that is refused. What START is, is said once, behind all levels."""
+    sheet, lines, sentences, start_said = known_sheet(given.sheet), [], [], ""
     curve = sheet.curve()
     for units in given.levels:
         name = f"level {layout.short_chance(units)}"
         answers = {query: total_or_refusal(curve, query, units) for query in given.queries}
         lines.append(f"{name}: {totals_shown(answers)}\n")
         sentences += refusals_told(f"{streams.source(given.sheet)}, {name}", answers)
+        if any(map(is_short, answers.values())):
+            start_said = about_start(curve.high, sheet.job.zero)
     streams.write_output("".join(lines).encode())
     for sentence in sentences:
         streams.say(COMMAND, sentence)
-    remark(given.sheet, sheet, about_excess(curve.low, curve.high))
+    remark(given.sheet, about_excess(curve.low, curve.high), start_said)
     return streams.REFUSED if sentences else streams.SUCCESS
 
 
@@ -245,21 +253,20 @@ def layers(given: argparse.Namespace) -> int:
     costs = layer_costs(curve, given.layers)
     lines = [layer_line(layer.text, cost.low, cost.high) for layer, cost in zip(given.layers, costs)]
     streams.write_output("".join([*lines, f"{MEANING}\n"]).encode())
-    remark(given.sheet, sheet, about_layers(curve.low, curve.high))
+    remark(given.sheet, about_layers(curve.low, curve.high), about_start(curve.high, sheet.job.zero))
     return streams.SUCCESS
 
 
 # ---- picture
 
 def draw(given: argparse.Namespace) -> int:
-    sheet = known_sheet(given.sheet)
-    curve = sheet.curve()
+    curve = known_sheet(given.sheet).curve()
     drawn = picture(list(curve), given.title).encode()
     if given.output == "-":
         streams.write_output(drawn)
     else:
         streams.write_file(given.output, drawn)
-    remark(given.sheet, sheet, about_excess(curve.low, curve.high))
+    remark(given.sheet, about_excess(curve.low, curve.high))
     return streams.SUCCESS
 
 
