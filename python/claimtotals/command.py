@@ -311,9 +311,12 @@ def add_start(commands: argparse._SubParsersAction) -> None:
         "claims is (1-q)^shape; Panjer and Willmot write p for it. Texts that write p for 1-q differ: give 1-p.\n"
         "\n"
         "The line is that of a sheet with ZERO 0. START is the chance that the total is zero: where claims close at nothing, so that ZERO\n"
-        "has a weight, give the mean or the chance of the claims that do not. With z for the weight at ZERO over the sum of all weights\n"
-        "that is a mean times 1-z; a chance p of a binomial law times 1-z; a chance q of a negative binomial law times (1-z)/(1-qz). Of 3\n"
-        "claims a year, one in three of which closes at nothing, it is that of --mean 2.",
+        "has a weight, give the mean or the chance of the claims that do not. The share of those that do is the weight at ZERO over the\n"
+        "sum of all weights. Give a mean times 1 - share; a chance p of a binomial law times 1 - share; a chance q of a negative binomial\n"
+        "law times (1 - share)/(1 - q share). Of 3 claims a year, one in three of which closes at nothing, it is that of --mean 2.\n"
+        "\n"
+        "Where such a fraction in lowest terms is over more than 1,000, it is refused by 41: choose weights with a smaller sum, or write\n"
+        "START from known digits.",
         "--mean 37/10", "--chance 1/20 --trials 30", "--mean 2")
     laws = parser.add_mutually_exclusive_group(required=True)
     laws.add_argument("--mean", action=Once, metavar="R/S", type=fraction, help="as 37/10, 4 or 3.7, which is 37/10; at most 20")
