@@ -38,7 +38,8 @@ extern "C" {
 
 /* The start of a Poisson law, from its mean: U times e to the -r/s lies from low to high. For a table whose weight of size 0 is 0 this is
    the start of the law itself, as the total is zero where there are no claims. With claims of size 0, whose share of all claims is
-   q = w(0)/W, it is the start of the mean times (1 - q): hand over that mean.
+   w(0)/W, hand over the mean times 1 - w(0)/W. Where that in lowest terms is over more than 1,000, 41 refuses it: choose weights with a
+   smaller sum W, or take a start from known digits.
 
    upper, lower  r and s: the mean is r/s
    low, high     the start: what claimtotals_curve takes as start_low and start_high
@@ -52,7 +53,7 @@ uint64_t claimtotals_start_mean(uint64_t upper, uint64_t lower, uint64_t *low, u
 
 /* The start of a binomial law, or of a negative binomial law of whole shape: U times (1 - r/s)^N lies from low to high. It is the start of
    the law for a table whose weight of size 0 is 0. With claims of size 0 hand over the changed chance, which README.md tells in its section
-   "Claims that close at nothing".
+   "Claims that close at nothing"; 41 is as with the mean.
 
    upper, lower  r and s. For a binomial law r/s is the chance of a claim in one trial. For a negative binomial law it is the q with which
                  the chance of no claims is (1-q)^N; Panjer and Willmot call it p, where other texts write p for 1-q

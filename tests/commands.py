@@ -201,11 +201,20 @@ def sums_line(command, file, sheet, rest="make LAST larger to see them"):
     return re.escape(head) + "".join(f"(?=.*{word})" for word in named) + about_start(sheet) + r".+\.\n"
 
 
+def start_said(sheet):
+    """What is said of START where the table of a sheet with a weight at ZERO adds up to less than 1: it may be the chance of no claims,
+    which is less than that of a zero total."""
+    zero, high = read_sheet(sheet, MOST_WEIGHTS).job.zero, sum(row[2] for row in rows(sheet))
+    if not zero or high >= UNIT // 1000 * 999:
+        return ""
+    return (f"With a weight at ZERO, {zero} here, START is the chance that the total is zero, and not that of no claims: claimtotals start "
+            "--help says how to get it.")
+
+
 def about_start(sheet):
-    """A pattern for what such a line says of START: with a weight at ZERO, and only then, that it is not the chance of no claims."""
-    zero = read_sheet(sheet, MOST_WEIGHTS).job.zero
-    said = rf".* With a weight at ZERO, {zero} here, START is the chance that the total is zero, and not that of no claims: "
-    return f"(?={said})" if zero else "(?!.*(?:ZERO|no claims))"
+    """A pattern for what the line about the sums says of it, at its end; of another sheet nothing such."""
+    said = start_said(sheet)
+    return rf"(?=.* {re.escape(said)}\n)" if said else "(?!.*(?:ZERO|no claims))"
 
 
 def excess_line(command, file, sheet):

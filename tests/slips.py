@@ -96,7 +96,9 @@ PLAIN = {
 SEEN = {
     "an older sheet": (23, "older sheet", text(*SMALL[:4], *SMALL[5:])),
     "an older sheet of order 3": (23, "older sheet", text("LAW 3 1", *["TERM 0 1"] * 3, *SMALL[2:4], *SMALL[5:])),
-    "ZERO behind SEVERITY": (23, "older sheet", text(*SMALL[:4], SMALL[5], SMALL[4], *SMALL[6:])),
+    "ZERO behind SEVERITY": (23, "ZERO behind SEVERITY", text(*SMALL[:4], SMALL[5], SMALL[4], *SMALL[6:])),
+    "ZERO with a weight behind SEVERITY": (23, "ZERO behind SEVERITY", text(*SMALL[:4], "SEVERITY 1", "ZERO 5", "W 1")),
+    "ZERO behind the weights": (23, "ZERO behind SEVERITY", text(*SMALL[:4], *SMALL[5:], "ZERO 5")),
     "an older sheet with a comment": (23, "older sheet", text(*SMALL[:4], "SEVERITY 2 # sizes", *SMALL[6:])),
     "line ends of an old Mac": (22, "line ends of old Macs", text(*SMALL).replace(b"\n", b"\r")),
     "a comma between numbers": (23, "other separators", with_line(2, "TERM 0,1")),

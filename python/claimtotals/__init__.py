@@ -24,7 +24,7 @@ A sheet is plain text. This one has a Poisson law with mean 1 and claims of size
 
 `start_of_mean(1)` gives the start of this law, and `start_of_trials` that of a binomial law or of a negative binomial law of whole shape.
 The start is the chance that the total is zero. Where claims close at nothing, ZERO has their weight, and these calls take a changed mean or
-chance, which README.md tells.
+chance, which README.md tells. `upgraded` gives the new sheet of one from before version 0.7.0, which has no line ZERO.
 `law_panjer_willmot` and `law_hesselager` give the divisor and the terms of a law, from the numbers of a publication's line.
 
 Chances are in units of one billionth, what a layer costs is in billionths of a money unit. Every number comes from a call of the proved
@@ -35,12 +35,14 @@ from claimtotals.curves import Curve, Job, Row, curve, possible, sure
 from claimtotals.laws import Law, law_hesselager, law_panjer_willmot
 from claimtotals.layout import digits
 from claimtotals.library import MOST_BYTES, UNIT
+from claimtotals.older import NotOlder, upgraded
 from claimtotals.refusals import Refused
 from claimtotals.sheets import Sheet, read_sheet
 from claimtotals.starts import Start, start_of_mean, start_of_trials
 
-__all__ = ["MOST_BYTES", "UNIT", "Curve", "Job", "Law", "LayerCost", "Refused", "Row", "Sheet", "Start", "curve", "digits",
-           "law_hesselager", "law_panjer_willmot", "layers", "possible", "read_sheet", "start_of_mean", "start_of_trials", "sure"]
+__all__ = ["MOST_BYTES", "UNIT", "Curve", "Job", "Law", "LayerCost", "NotOlder", "Refused", "Row", "Sheet", "Start", "curve", "digits",
+           "law_hesselager", "law_panjer_willmot", "layers", "possible", "read_sheet", "start_of_mean", "start_of_trials", "sure",
+           "upgraded"]
 
 
 def __getattr__(name: str) -> str:

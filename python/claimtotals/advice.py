@@ -39,9 +39,10 @@ def about_layers(low: Sequence[int], high: Sequence[int]) -> Optional[str]:
                       " they are there")
 
 
-def about_start(zero: int) -> str:
-    """What is said behind such a sentence where a sheet has this weight at ZERO, and its start may be one that was made without it."""
-    if not zero:
+def about_start(high: Sequence[int], zero: int) -> str:
+    """What is said too where a table adds up to less than 1 and its sheet has this weight at ZERO: the chance of no claims as START is too
+    low there, and never too high."""
+    if not zero or sum(high) >= UNIT - SLACK:
         return ""
-    return (f" With a weight at ZERO, {zero} here, START is the chance that the total is zero, and not that of no claims: claimtotals start"
+    return (f"With a weight at ZERO, {zero} here, START is the chance that the total is zero, and not that of no claims: claimtotals start"
             " --help says how to get it.")

@@ -36,9 +36,10 @@ def known_sheet(path: str) -> Sheet:
     return read_sheet(sheet_bytes(path))
 
 
-def remark(path: str, sheet: Sheet, sentence: Optional[str]) -> None:
-    if sentence:
-        streams.say(COMMAND, f"{streams.source(path)}: {sentence}{about_start(sheet.job.zero)}")
+def remark(path: str, *sentences: Optional[str]) -> None:
+    """Those that are due."""
+    if any(sentences):
+        streams.say(COMMAND, f"{streams.source(path)}: {' '.join(filter(None, sentences))}")
 
 
 # ---- start
@@ -143,7 +144,7 @@ def table(given: argparse.Namespace) -> int:
     sheet = known_sheet(given.sheet)
     curve = sheet.curve()
     streams.write_output(table_text(curve, given).encode())
-    remark(given.sheet, sheet, about_sums(curve.low, curve.high))
+    remark(given.sheet, about_sums(curve.low, curve.high), about_start(curve.high, sheet.job.zero))
     return streams.SUCCESS
 
 
@@ -187,19 +188,26 @@ def refusals_told(about: str, answers: dict[str, TotalOrRefusal]) -> list[str]:
     return [refusal.of(f"{about}, {query}") for query, refusal in refusals]
 
 
+def is_short(answer: TotalOrRefusal) -> bool:
+    """Whether the table falls short of the level."""
+    return isinstance(answer, Refused) and answer.number in (34, 35)
+
+
 def level(given: argparse.Namespace) -> int:
-    """Every level is asked, also after one that is refused."""
-    sheet, lines, sentences = known_sheet(given.sheet), [], []
+    """Every level is asked, also after one that is refused. What START is, is said once, behind all levels."""
+    sheet, lines, sentences, start_said = known_sheet(given.sheet), [], [], ""
     curve = sheet.curve()
     for units in given.levels:
         name = f"level {layout.short_chance(units)}"
         answers = {query: total_or_refusal(curve, query, units) for query in given.queries}
         lines.append(f"{name}: {totals_shown(answers)}\n")
         sentences += refusals_told(f"{streams.source(given.sheet)}, {name}", answers)
+        if any(map(is_short, answers.values())):
+            start_said = about_start(curve.high, sheet.job.zero)
     streams.write_output("".join(lines).encode())
     for sentence in sentences:
         streams.say(COMMAND, sentence)
-    remark(given.sheet, sheet, about_excess(curve.low, curve.high))
+    remark(given.sheet, about_excess(curve.low, curve.high), start_said)
     return streams.REFUSED if sentences else streams.SUCCESS
 
 
@@ -245,21 +253,20 @@ def layers(given: argparse.Namespace) -> int:
     costs = layer_costs(curve, given.layers)
     lines = [layer_line(layer.text, cost.low, cost.high) for layer, cost in zip(given.layers, costs)]
     streams.write_output("".join([*lines, f"{MEANING}\n"]).encode())
-    remark(given.sheet, sheet, about_layers(curve.low, curve.high))
+    remark(given.sheet, about_layers(curve.low, curve.high), about_start(curve.high, sheet.job.zero))
     return streams.SUCCESS
 
 
 # ---- picture
 
 def draw(given: argparse.Namespace) -> int:
-    sheet = known_sheet(given.sheet)
-    curve = sheet.curve()
+    curve = known_sheet(given.sheet).curve()
     drawn = picture(list(curve), given.title).encode()
     if given.output == "-":
         streams.write_output(drawn)
     else:
         streams.write_file(given.output, drawn)
-    remark(given.sheet, sheet, about_excess(curve.low, curve.high))
+    remark(given.sheet, about_excess(curve.low, curve.high))
     return streams.SUCCESS
 
 
@@ -304,9 +311,12 @@ def add_start(commands: argparse._SubParsersAction) -> None:
         "claims is (1-q)^shape; Panjer and Willmot write p for it. Texts that write p for 1-q differ: give 1-p.\n"
         "\n"
         "The line is that of a sheet with ZERO 0. START is the chance that the total is zero: where claims close at nothing, so that ZERO\n"
-        "has a weight, give the mean or the chance of the claims that do not. With z for the weight at ZERO over the sum of all weights\n"
-        "that is a mean times 1-z; a chance p of a binomial law times 1-z; a chance q of a negative binomial law times (1-z)/(1-qz). Of 3\n"
-        "claims a year, one in three of which closes at nothing, it is that of --mean 2.",
+        "has a weight, give the mean or the chance of the claims that do not. The share of those that do is the weight at ZERO over the\n"
+        "sum of all weights. Give a mean times 1 - share; a chance p of a binomial law times 1 - share; a chance q of a negative binomial\n"
+        "law times (1 - share)/(1 - q share). Of 3 claims a year, one in three of which closes at nothing, it is that of --mean 2.\n"
+        "\n"
+        "Where such a fraction in lowest terms is over more than 1,000, it is refused by 41: choose weights with a smaller sum, or write\n"
+        "START from known digits.",
         "--mean 37/10", "--chance 1/20 --trials 30", "--mean 2")
     laws = parser.add_mutually_exclusive_group(required=True)
     laws.add_argument("--mean", action=Once, metavar="R/S", type=fraction, help="as 37/10, 4 or 3.7, which is 37/10; at most 20")

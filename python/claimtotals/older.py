@@ -37,6 +37,7 @@ def upgraded(data: bytes) -> bytes:
     b'LAW 1 1\\nTERM 0 1\\nSTART 367879441 367879442\\nLAST 0\\nZERO 0\\nSEVERITY 1\\nW 1\\n'
     """
     refused = first_refusal(data)
+    data = bytes(data)
     read = lines_read(data, refused)
     if refused is None or any(line.startswith(ZERO) for line in read):
         raise NotOlder("this is no older sheet: it has its line ZERO already, so there is nothing to upgrade")

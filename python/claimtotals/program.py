@@ -76,7 +76,8 @@ def run(path: str, program: Callable[[], pathlib.Path]) -> int:
     _, low, high, _ = columns(text)
     remark = about_sums(low, high)
     if remark:
-        streams.say(COMMAND, f"{streams.source(path)}: {remark}{about_start(read_sheet(sheet).job.zero)}")
+        sentences = [remark, about_start(high, read_sheet(sheet).job.zero)]
+        streams.say(COMMAND, f"{streams.source(path)}: {' '.join(filter(None, sentences))}")
     return streams.SUCCESS
 
 

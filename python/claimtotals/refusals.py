@@ -13,6 +13,7 @@ MOST_SHOWN = 40
 SEEN = {
     22: {"line ends of old Macs": rb".*\r"},
     23: {
+        "ZERO behind SEVERITY": rb"SEVERITY\b",
         "older sheet": rb"SEVERITY\b",
         "byte order mark": rb"\xef\xbb\xbf|\xff\xfe|\xfe\xff",
         "comment": rb".*(#|//)",
@@ -37,8 +38,12 @@ SEEN = {
     },
 }
 
-# And what the line before it looks like, where that counts too: behind a good line LAST the line ZERO is due.
-SEEN_BEFORE = {(23, "older sheet"): rb"LAST "}
+# And what the line before it and the lines behind it look like, where they count too: behind a good line LAST the line ZERO is due, and it
+# may stand on a later line.
+SEEN_AROUND = {
+    (23, "ZERO behind SEVERITY"): (rb"LAST ", rb"(?:.*\n)*?ZERO "),
+    (23, "older sheet"): (rb"LAST ", rb""),
+}
 
 
 class Refusal(NamedTuple):
@@ -52,10 +57,12 @@ class Refusal(NamedTuple):
     remedy: str
     seen: dict
 
-    def look(self, text: bytes, before: bytes) -> str:
-        """What is seen in the text of the line or the word, and in that of the line before; nothing where there is no remedy for it."""
+    def look(self, text: bytes, before: bytes, behind: bytes) -> str:
+        """What is seen in the text of the line or the word, in the line before and in those behind; nothing where there is no remedy for
+        it."""
         for look, pattern in SEEN.get(self.number, {}).items():
-            if re.match(pattern, text) and re.match(SEEN_BEFORE.get((self.number, look), b""), before):
+            around = SEEN_AROUND.get((self.number, look), (b"", b""))
+            if all(map(re.match, (pattern, *around), (text, before, behind))):
                 return look
         return ""
 
@@ -99,14 +106,15 @@ class Refused(Exception):
     """
 
     def __init__(self, number: int, place: int, *, word: Optional[bytes] = None, text: bytes = b"", before: bytes = b"",
-                 more: str = "") -> None:
-        """`text` is the line or the word where it may be seen what to do, `before` the line before it, and `more` is said after why."""
+                 behind: bytes = b"", more: str = "") -> None:
+        """`text` is the line or the word where it may be seen what to do, `before` the line before it, `behind` all lines behind it, and
+        `more` is said after why."""
         super().__init__(number, place)  # from these it is made anew where it was pickled, and then gets its attributes back
         said = REFUSALS[number]
         self.number, self.place, self.word, self.name = number, place, word, said.name
         self.line = place if "sheet" in said.calls else None
         self.why = said.why + more
-        self.seen = said.look(text, before)
+        self.seen = said.look(text, before, behind)
         self.remedy = said.seen.get(self.seen, said.remedy)
         self.at = f"{said.at} {place}" if said.at else ""
 
@@ -125,7 +133,7 @@ class Refused(Exception):
 
     def on_line(self, line: int) -> Refused:
         """The same, told of another line: for a sheet that was read with lines that its file does not have."""
-        self.place, self.line, self.at = line, line, f"line {line}"
+        self.place, self.line, self.at, self.args = line, line, f"line {line}", (self.number, line)
         return self
 
     def of(self, source: str) -> str:

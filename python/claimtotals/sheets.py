@@ -46,8 +46,10 @@ def sheet_refusal(data: bytes, number: int, line: int) -> Refused:
     if number == 24:
         word = faulty_word(data)
         return Refused(number, line, word=word, text=word)
-    before, text = [b"", *data.split(b"\n")][line - 1:line + 1] if line else (b"", b"")
-    return Refused(number, line, text=text, before=before)
+    if not line:
+        return Refused(number, line)
+    before, text, *behind = [b"", *data.split(b"\n")][line - 1:]
+    return Refused(number, line, text=text, before=before, behind=b"\n".join(behind))
 
 
 def read_sheet(data: bytes) -> Sheet:

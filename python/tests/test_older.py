@@ -1,8 +1,7 @@
 """Older sheets, which have no line ZERO. What is refused, and at which line, is worked out by hand from the paper's rule for sheets."""
 import unittest
 
-from claimtotals import MOST_BYTES, Refused, read_sheet
-from claimtotals.older import NotOlder, upgraded
+from claimtotals import MOST_BYTES, NotOlder, Refused, read_sheet, upgraded
 
 # The paper's P1, as it is now and as it was.
 NEW = b"LAW 1 1\nTERM 0 1\nSTART 367879441 367879442\nLAST 3\nZERO 0\nSEVERITY 2\nW 1\nW 1\n"
@@ -32,10 +31,15 @@ class Upgraded(unittest.TestCase):
             with self.subTest(new):
                 self.assertEqual(upgraded(changed(old, new)), NEW.replace(old, new))
 
-    def test_what_is_given_stays(self):
-        data = bytes(OLD)
-        upgraded(data)
+    def test_kinds_of_bytes(self):
+        """As read_sheet takes them; what was given stays."""
+        data = bytearray(OLD)
+        for given in data, memoryview(data):
+            self.assertEqual(upgraded(given), NEW)
         self.assertEqual(data, OLD)
+        for given in OLD.decode(), len(OLD), None:
+            with self.subTest(given), self.assertRaises(TypeError):
+                upgraded(given)
 
 
 class Refusals(unittest.TestCase):
@@ -45,6 +49,7 @@ class Refusals(unittest.TestCase):
                 upgraded(data)
             refused = caught.exception
             self.assertEqual((refused.number, refused.place, refused.line, refused.word), (number, line, line, word))
+            self.assertEqual(repr(refused), f"Refused({number}, {line})")
             begins = f"line {line}: refused by {number}: " if line else f"refused by {number}: "
             self.assertTrue(refused.sentence.startswith(begins), refused.sentence)
             self.assertNotIn("older sheet", refused.remedy)
@@ -64,7 +69,16 @@ class Refusals(unittest.TestCase):
         self.check(changed(b"SEVERITY 2", b"SEVERITY 3"), 22, 8)
         self.check(OLD[:-1], 22, 7)
         self.check(OLD + b"W 1\n", 26, 8)
-        self.check(changed(b"SEVERITY 2\n", b"SEVERITY 2\nZERO 0\n"), 23, 6)
+        self.check(changed(b"SEVERITY 2\n", b"SEVERITY 2\nZERO\n"), 23, 6)
+
+    def test_line_zero_further_down(self):
+        """With a line ZERO before SEVERITY, its weight would be lost."""
+        for data in changed(b"SEVERITY 2\n", b"SEVERITY 2\nZERO 5\n"), OLD + b"ZERO 5\n":
+            self.check(data, 23, 5)
+            with self.assertRaises(Refused) as caught:
+                upgraded(data)
+            self.assertEqual(caught.exception.seen, "ZERO behind SEVERITY")
+            self.assertIn("Move the line ZERO", caught.exception.remedy)
 
     def test_no_sheet(self):
         self.check(b"", 21, 0)

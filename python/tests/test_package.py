@@ -27,8 +27,9 @@ def load_tests(_, tests, pattern):
 class Names(unittest.TestCase):
     def test_all(self):
         self.assertEqual(set(claimtotals.__all__), {
-            "MOST_BYTES", "UNIT", "Curve", "Job", "Law", "LayerCost", "Refused", "Row", "Sheet", "Start", "curve", "digits",
-            "law_hesselager", "law_panjer_willmot", "layers", "possible", "read_sheet", "start_of_mean", "start_of_trials", "sure"})
+            "MOST_BYTES", "UNIT", "Curve", "Job", "Law", "LayerCost", "NotOlder", "Refused", "Row", "Sheet", "Start", "curve",
+            "digits", "law_hesselager", "law_panjer_willmot", "layers", "possible", "read_sheet", "start_of_mean", "start_of_trials",
+            "sure", "upgraded"})
         for name in claimtotals.__all__:
             self.assertTrue(hasattr(claimtotals, name), name)
 

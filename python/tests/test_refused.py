@@ -173,6 +173,13 @@ class Remedies(unittest.TestCase):
             self.assertEqual((refusal.line, refusal.seen), (5, "older sheet"))
             self.seen(refusal, 23, "older sheet", "`ZERO 0` before the line SEVERITY", "`claimtotals upgrade OLD > NEW`")
 
+    def test_zero_further_down(self):
+        """That is no older sheet, whatever stands between."""
+        for new in b"SEVERITY 2\nZERO 5", b"SEVERITY 2\n# none\n\nZERO 5", b"SEVERITY\nZERO ":
+            refusal = raised(lambda: changed(b"ZERO 0\nSEVERITY 2", new))
+            self.assertEqual((refusal.line, refusal.seen), (5, "ZERO behind SEVERITY"))
+            self.seen(refusal, 23, "Move the line ZERO", "before the line SEVERITY")
+
     def test_other_lines(self):
         """Of those in capitals nobody is sent looking for lower case; nor for a line ZERO that is not missing."""
         for old, new in (
