@@ -24,7 +24,7 @@ use Rattle.published.specs.Call.{Made, turn, turnedLaw, wrongLaw, lawOfLine}
 use Rattle.published.specs.Satisfies.{ownAmount, SameAmounts}
 use Rattle.published.proofs.Accepted.{line-accepted}
 use Rattle.published.proofs.Satisfies.{own-amounts}
-use Rattle.rows.specs.Layout.{Lent}
+use Rattle.compound.specs.Lent.{Lent}
 use Rattle.compound.specs.Call.{firstWrongTerm, curveAnswer}
 use Rattle.accuracy.specs.GivenLaw.{EnclosesOwn, EnclosesPublished, lawRefused, SameLimits, LawTaken}
 use Rattle.accuracy.proofs.Accuracy.{encloses}

@@ -17,7 +17,7 @@ use Rattle.start.specs.Holds.{Holds, Passes}
 use Rattle.start.proofs.IsStart.{is-start}
 use Rattle.start.proofs.PowerHeld.{holds-power}
 use Rattle.start.proofs.SeriesHeld.{holds-series}
-use Rattle.rows.specs.Layout.{Lent}
+use Rattle.compound.specs.Lent.{Lent}
 use Rattle.compound.specs.Call.{wrongStart}
 use Rattle.accuracy.specs.Accuracy.{Accepted}
 use Rattle.accuracy.specs.GivenStart.{EnclosedFor, EnclosesPower, EnclosesSeries, StartTaken}

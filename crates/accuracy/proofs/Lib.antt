@@ -9,3 +9,5 @@ pub mod Layer
 pub mod GivenStart
 pub mod GivenLaw
 pub mod Zeros
+pub mod EqualEnds
+pub mod Exactness

@@ -6,7 +6,7 @@ use lib.IntN.{ℤ}
 use Rattle.model.specs.declared.Job.{Job}
 use Rattle.model.specs.Answer.{condition, firstOf}
 use Rattle.exact.specs.JobAmount.{amount}
-use Rattle.rows.specs.Layout.{Lent}
+use Rattle.compound.specs.Lent.{Lent}
 use Rattle.quantile.specs.Call.{wrongLevel, reachCheck, queryBy, sureQuery, possibleQuery}
 use Rattle.quantile.proofs.Enclosed.{quantile-enclosed}
 use Rattle.accuracy.specs.Accuracy.{Accepted}

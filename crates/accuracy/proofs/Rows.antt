@@ -19,7 +19,7 @@ use Rattle.model.specs.declared.Job.{Job}
 use Rattle.model.specs.Limits.{mostTotals}
 use Rattle.model.proofs.Tests.{inside}
 use Rattle.exact.specs.JobAmount.{Divisible, amount}
-use Rattle.rows.specs.Layout.{Lent}
+use Rattle.compound.specs.Lent.{Lent}
 use Rattle.compound.specs.Call.{curveLent}
 use Rattle.compound.proofs.Accepted.{limits, entry-small, lows-long, highs-long}
 use Rattle.intervals.specs.Checks.{wrongAt, rowsCondition, entryCondition}

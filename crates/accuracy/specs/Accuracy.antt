@@ -14,7 +14,7 @@ use Rattle.exact.specs.JobAmount.{Divisible, amount}
 use Rattle.enclosure.specs.declared.Entry.{Entry}
 use Rattle.enclosure.specs.Entry.{EntryFits}
 use Rattle.rows.specs.Curve.{sumsAt, curveRows}
-use Rattle.rows.specs.Layout.{Lent}
+use Rattle.compound.specs.Lent.{Lent}
 use Rattle.compound.specs.Call.{curveAnswer, curveLent}
 
 -- ---- the call

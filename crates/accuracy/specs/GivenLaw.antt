@@ -12,7 +12,7 @@ use Rattle.model.specs.Limits.{outside}
 use Rattle.exact.specs.JobAmount.{Divisible, severity}
 use Rattle.published.specs.Call.{Made, turnedLaw, wrongLaw}
 use Rattle.published.specs.Satisfies.{ownAmount, OfBoth}
-use Rattle.rows.specs.Layout.{Lent}
+use Rattle.compound.specs.Lent.{Lent}
 use Rattle.compound.specs.Call.{curveAnswer}
 use Rattle.accuracy.specs.Accuracy.{Accepted, shown}
 

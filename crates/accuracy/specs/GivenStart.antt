@@ -10,7 +10,7 @@ use Rattle.model.specs.declared.Job.{Job}
 use Rattle.exact.specs.JobAmount.{Divisible, amount}
 use Rattle.start.specs.Call.{given, startOfMean, startOfTrials}
 use Rattle.start.specs.Holds.{powerUnits, seriesUnits}
-use Rattle.rows.specs.Layout.{Lent}
+use Rattle.compound.specs.Lent.{Lent}
 use Rattle.compound.specs.Call.{wrongStart}
 use Rattle.accuracy.specs.Accuracy.{Accepted, shown}
 

@@ -6,7 +6,7 @@ use lib.IntN.{ℤ}
 use lib.ListN.{length}
 use Rattle.model.specs.declared.Job.{Job}
 use Rattle.model.specs.Answer.{condition, firstOf}
-use Rattle.rows.specs.Layout.{Lent}
+use Rattle.compound.specs.Lent.{Lent}
 use Rattle.layer.specs.declared.LayerList.{LayerList}
 use Rattle.layer.specs.Call.{wrongCount, allLayerChecks, layerCosts}
 use Rattle.layer.specs.Enclosed.{EnclosesPaid}

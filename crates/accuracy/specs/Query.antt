@@ -5,7 +5,7 @@ use Prim.Native.Nat.{ℕ}
 use lib.IntN.{ℤ}
 use Rattle.model.specs.declared.Job.{Job}
 use Rattle.model.specs.Answer.{condition, firstOf}
-use Rattle.rows.specs.Layout.{Lent}
+use Rattle.compound.specs.Lent.{Lent}
 use Rattle.quantile.specs.Call.{wrongLevel, reachCheck, sureQuery, possibleQuery}
 use Rattle.quantile.specs.Enclosed.{QueriesTrue}
 use Rattle.accuracy.specs.Accuracy.{Accepted}

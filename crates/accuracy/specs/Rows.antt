@@ -6,7 +6,7 @@ use lib.ListN.{take}
 use Rattle.algebra.specs.Fraction.{Fraction, whole, _≼_}
 use Rattle.model.specs.declared.Job.{Job}
 use Rattle.exact.specs.JobAmount.{Divisible, amount}
-use Rattle.rows.specs.Layout.{Lent}
+use Rattle.compound.specs.Lent.{Lent}
 use Rattle.compound.specs.Call.{curveLent}
 use Rattle.intervals.specs.Amounts.{Enclose}
 use Rattle.accuracy.specs.Accuracy.{Accepted}

@@ -11,7 +11,7 @@ use Rattle.model.specs.declared.Job.{Job}
 use Rattle.exact.specs.Frequency.{countCoefficient}
 use Rattle.exact.specs.JobAmount.{Divisible, givenLaw, jobTable}
 use Rattle.exact.specs.Zeros.{upToClaims, Apart}
-use Rattle.rows.specs.Layout.{Lent}
+use Rattle.compound.specs.Lent.{Lent}
 use Rattle.accuracy.specs.Accuracy.{Accepted, shown}
 
 -- the amount of at most n claims at total x

@@ -9,6 +9,7 @@ pub mod Size
 pub mod Ring
 pub mod Solver
 pub mod Or
+pub mod And
 pub mod Order
 pub mod Sized
 pub mod Alternating
@@ -17,3 +18,5 @@ pub mod Value
 pub mod Smallest
 pub mod Slice
 pub mod Table
+pub mod Bits
+pub mod Tabled

@@ -13,4 +13,5 @@ pub mod Line
 pub mod Solver
 pub mod Smallest
 pub mod Slice
+pub mod Tabled
 pub mod Table

@@ -1,5 +1,6 @@
 -- Finite sums: the definition, for any zero and any plus, and what sums over a commutative semiring obey.
 use mathlib.Core.Path.{_≡_}
+use mathlib.Core.Bool.{Bool, true, _&&_}
 use Prim.Native.Nat.{ℕ, zero, suc, _-_, _≤_, _<_, min, _+_}
 use lib.IntN.{ℤ, pos, _+ℤ_}
 use Rattle.algebra.specs.Semiring.{Semiring}
@@ -21,6 +22,10 @@ sumℕ = accumulate 0 _+_
 
 abbrev pub sumℤ : ℕ → (ℕ → ℤ) → ℤ
 sumℤ = accumulate (pos 0) _+ℤ_
+
+-- f 0, f 1, .. and f (n - 1) hold
+abbrev pub allOf : ℕ → (ℕ → Bool) → Bool
+allOf = accumulate true _&&_
 
 -- terms that are related have related sums: congruence, order, homomorphisms and sizes are instances
 abbrev pub SumRelated : Type 0 → Type 0 → Type 1

@@ -1,6 +1,6 @@
 // The curve call. Its record: k, D, A_1 to A_4, B_1 to B_4, s, t, X, w(0), the number of weights, the weights, and how many places of the
-// low, the high, the bound and the work row are lent. Its line: number and place; then, for each of these rows, the places that were
-// written, also past those that were lent, and what they hold.
+// low, the high, the bound, the mark and the work row are lent. Its line: number and place; then, for each of these rows, the places that
+// were written, also past those that were lent, and what they hold.
 
 use crate::input;
 use crate::show;
@@ -12,10 +12,10 @@ use model::Start;
 // The rows that are lent are the fronts of arrays of so many places, more than a call asks for.
 const PLACES: usize = 512;
 
-const WORK_PLACES: usize = 4_600;
+const WORK_PLACES: usize = 6_100;
 
 // What each place holds before the call. No entry is as low.
-const MARK: i64 = i64::MIN;
+const UNTOUCHED: i64 = i64::MIN;
 
 fn read_terms() -> [i64; 4] {
     [
@@ -74,11 +74,13 @@ fn call(
     low: &mut [i64],
     high: &mut [i64],
     bound: &mut [i64],
+    mark: &mut [i64],
     work: &mut [i64],
 ) {
     let lows = input::at_most(low.len());
     let highs = input::at_most(high.len());
     let bounds = input::at_most(bound.len());
+    let marks = input::at_most(mark.len());
     let works = input::at_most(work.len());
     show_answer(compound::curve(
         job,
@@ -86,6 +88,7 @@ fn call(
         &mut low[..lows],
         &mut high[..highs],
         &mut bound[..bounds],
+        &mut mark[..marks],
         &mut work[..works],
     ));
 }
@@ -94,21 +97,24 @@ pub fn run() {
     let job = read_job();
     let mut weights = [0u64; PLACES];
     let count = input::numbers(&mut weights);
-    let mut low = [MARK; PLACES];
-    let mut high = [MARK; PLACES];
-    let mut bound = [MARK; PLACES];
-    let mut work = [MARK; WORK_PLACES];
+    let mut low = [UNTOUCHED; PLACES];
+    let mut high = [UNTOUCHED; PLACES];
+    let mut bound = [UNTOUCHED; PLACES];
+    let mut mark = [UNTOUCHED; PLACES];
+    let mut work = [UNTOUCHED; WORK_PLACES];
     call(
         job,
         &weights[..count],
         &mut low,
         &mut high,
         &mut bound,
+        &mut mark,
         &mut work,
     );
-    show::row(&low, MARK);
-    show::row(&high, MARK);
-    show::row(&bound, MARK);
-    show::row(&work, MARK);
+    show::row(&low, UNTOUCHED);
+    show::row(&high, UNTOUCHED);
+    show::row(&bound, UNTOUCHED);
+    show::row(&mark, UNTOUCHED);
+    show::row(&work, UNTOUCHED);
     show::text(b"\n");
 }

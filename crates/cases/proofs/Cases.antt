@@ -10,18 +10,20 @@ use Rattle.algebra.specs.Slice.{listed}
 use Rattle.algebra.specs.Smallest.{smallest}
 use Rattle.algebra.specs.Sum.{accumulate}
 use Rattle.algebra.specs.Table.{Equates, sameInteger, sameList}
+use Rattle.algebra.specs.Tabled.{withNext, history, tabled}
 use Rattle.algebra.proofs.Table.{and-left, and-right, each-passes, same-integer, same-list}
 use Rattle.model.specs.Weights.{divisorZero}
 use Rattle.model.specs.Job.{lawOf, startOf, jobOf}
 use Rattle.model.specs.Answer.{Answer, refused, firstOf}
-use Rattle.outward.specs.Division.{floorDiv, ceilDiv}
+use Rattle.outward.specs.Division.{floorDiv, ceilDiv, divides}
 use Rattle.start.specs.Step.{times, repeated}
 use Rattle.start.specs.Call.{Started, term, series, ofMean, ofTrials, startOfMean, startOfTrials}
 use Rattle.published.specs.Call.{Made, lawOfLine, lawOfPanjerWillmot, lawOfHesselager}
 use Rattle.enclosure.specs.Entry.{scaled, allowance, rounded}
-use Rattle.rows.specs.Curve.{factor, sumsZero, sumsNext, entryAt, withNext, history, curveRows}
-use Rattle.rows.specs.Layout.{Lent, lentRows}
+use Rattle.rows.specs.Curve.{factor, sumsZero, sumsNext, entryAt, curveRows}
+use Rattle.rows.specs.Exact.{usedZero, usedNext, dividesAt, exactAt, curveMarks}
 use Rattle.rows.specs.Faults.{firstFault, rangeFault}
+use Rattle.compound.specs.Lent.{Lent, lentRows}
 use Rattle.compound.specs.Call.{curveAnswer, rowAfter, curveLent}
 use Rattle.quantile.specs.Call.{Found, quantileOf, sureQuery, possibleQuery}
 use Rattle.layer.specs.Layer.{saving, costBy}
@@ -51,7 +53,8 @@ same-row = same-list ℤ sameInteger same-integer
 
 same-lent : Equates Lent sameLent
 same-lent x y t =
-    ap (λ l. lentRows (getD l 0 []) (getD l 1 []) (getD l 2 []) (getD l 3 [])) (same-list (List ℤ) sameRow same-row (rows x) (rows y) t)
+    ap (λ l. lentRows (getD l 0 []) (getD l 1 []) (getD l 2 []) (getD l 3 []) (getD l 4 []))
+    (same-list (List ℤ) sameRow same-row (rows x) (rows y) t)
 
 same-bytes : Equates (List ℕ) sameBytes
 same-bytes = same-list ℕ eqb eqb→eq
@@ -192,7 +195,8 @@ sound (hesselager b₀ b₁ a₀ a₁ answer) t = same-made (lawOfHesselager b�
 sound (program s text) t = same-bytes (reportText s) (ascii text) t
 
 pub cases-hold : CasesHold
-unfolding curveAnswer curveLent rowAfter rangeFault firstFault curveRows history withNext entryAt sumsNext sumsZero divisorZero factor
+unfolding curveAnswer curveLent rowAfter rangeFault firstFault curveRows tabled history withNext entryAt sumsNext sumsZero divisorZero factor
+    curveMarks exactAt dividesAt usedZero usedNext divides
     allowance rounded scaled
     firstOf ceilDiv floorDiv accumulate smallest listed
     reading lawLine termLines startLine lastLine zeroLine severityLine weightLines line allNumbers firstNoNumber firstPart

@@ -1,6 +1,6 @@
 -- "Cases on each limit", P1 to P12, as rows of one table, and more of the paper's calls. The numbers are the paper's, with the bounds of
--- P2, P4 and P6 as Wish 4 has them, P9 and P10 asked of the two calls of Wish 5, and the line ZERO of Wish 7 in every sheet; what is not
--- printed follows from the rules, and calculator/check_paper_cases.py works every row out apart from these definitions.
+-- P2, P4 and P6 as Wish 4 has them, P9 and P10 asked of the two calls of Wish 5, the line ZERO of Wish 7 in every sheet, and the marks of
+-- Wish 10; what is not printed follows from the rules, and calculator/check_paper_cases.py works every row out apart from these definitions.
 use mathlib.Core.Path.{_≡_}
 use mathlib.Core.Bool.{Bool, _&&_}
 use mathlib.Core.List.{List, [], _∷_, _++_, map, List·Memᴰ}
@@ -17,7 +17,7 @@ use Rattle.model.specs.Job.{lawOf, startOf, jobOf}
 use Rattle.model.specs.Answer.{Answer, accepted, refused}
 use Rattle.start.specs.Call.{Started, startOfMean, startOfTrials}
 use Rattle.published.specs.Call.{Made, lawOfPanjerWillmot, lawOfHesselager}
-use Rattle.rows.specs.Layout.{Lent, lentRows}
+use Rattle.compound.specs.Lent.{Lent, lentRows}
 use Rattle.compound.specs.Call.{curveAnswer, curveLent}
 use Rattle.quantile.specs.Call.{Found, sureQuery, possibleQuery}
 use Rattle.layer.specs.declared.LayerList.{LayerList}
@@ -75,24 +75,25 @@ law k D A B = lawOf k D (padded A) (padded B)
 
 -- ---- lent rows
 -- what every place holds at entry, so that it shows which ones the call writes
-abbrev marks : ℕ → List ℤ
-marks n = replicate n (pos 7)
+abbrev sevens : ℕ → List ℤ
+sevens n = replicate n (pos 7)
 
--- the rows have two places more than the call asks for, the work row one; its "9 times (X+1)" is written here apart from the definition
+-- the rows have two places more than the call asks for, the work row one; its "12 times (X+1)" is written here apart from the definition
 abbrev lentFor : (X : ℕ) → Lent
-lentFor X = lentRows (marks (X + 3)) (marks (X + 3)) (marks (X + 3)) (marks (9 * (X + 1) + 1))
+lentFor X = lentRows (sevens (X + 3)) (sevens (X + 3)) (sevens (X + 3)) (sevens (X + 3)) (sevens (12 * (X + 1) + 1))
 
 -- on return, by X: "These write nothing."
 abbrev untouched : (X : ℕ) → Lent
 untouched X = lentFor X
 
--- the three rows hold numbers in front of their two marks, and the work row 0 in front of its one
-abbrev holding : (low high bound : List ℤ) (X : ℕ) → Lent
-holding low high bound X = lentRows (low ++ marks 2) (high ++ marks 2) (bound ++ marks 2) (replicate (9 * (X + 1)) (pos 0) ++ marks 1)
+-- the rows hold numbers in front of their last two places, and the work row 0 in front of its last; `marks` is what the fourth holds
+abbrev holding : (marks : List ℕ) (low high bound : List ℤ) (X : ℕ) → Lent
+holding marks low high bound X = lentRows (low ++ sevens 2) (high ++ sevens 2) (bound ++ sevens 2) (map pos marks ++ sevens 2)
+    (replicate (12 * (X + 1)) (pos 0) ++ sevens 1)
 
--- "the first X+1 places of the three rows are 0"
+-- "the first X+1 places of the three rows are 0", and of the fourth, "which 8, 9 and 10 treat like the other three"
 abbrev cleared : (X : ℕ) → Lent
-cleared X = holding (replicate (X + 1) (pos 0)) (replicate (X + 1) (pos 0)) (replicate (X + 1) (pos 0)) X
+cleared X = holding (replicate (X + 1) 0) (replicate (X + 1) (pos 0)) (replicate (X + 1) (pos 0)) (replicate (X + 1) (pos 0)) X
 
 -- ---- sheets
 -- the paper's sheet, that of P1, with two of its lines left open; "P1's sheet gains `ZERO 0`"
@@ -140,8 +141,8 @@ priced lows highs restLow restHigh = record { answer = accepted; low = lows ++ r
 -- a refusal writes nothing
 abbrev notPriced : (low high : List ℤ) (list : LayerList) (placesLow placesHigh number place : ℕ) → Case
 notPriced low high list placesLow placesHigh number place =
-    layers low high list (marks placesLow) (marks placesHigh)
-    (record { answer = refused number place; low = marks placesLow; high = marks placesHigh })
+    layers low high list (sevens placesLow) (sevens placesHigh)
+    (record { answer = refused number place; low = sevens placesLow; high = sevens placesHigh })
 
 -- ---- starts
 abbrev started : (low high : ℕ) → Started
@@ -181,8 +182,23 @@ lowP1 = map pos (367879441 ∷ 183939720 ∷ 229924650 ∷ 99634015 ∷ [])
 abbrev highP1 : List ℤ
 highP1 = map pos (367879442 ∷ 183939721 ∷ 229924652 ∷ 99634016 ∷ [])
 
+abbrev boundP1 : List ℤ
+boundP1 = map pos (1 ∷ 2 ∷ 2 ∷ 2 ∷ [])
+
+abbrev marksP1 : List ℕ
+marksP1 = 1 ∷ 0 ∷ 0 ∷ 0 ∷ []
+
 abbrev rowsP1 : (X : ℕ) → Lent
-rowsP1 = holding lowP1 highP1 (map pos (1 ∷ 2 ∷ 2 ∷ 2 ∷ []))
+rowsP1 = holding marksP1 lowP1 highP1 boundP1
+
+-- P1's job with rows of so many places
+abbrev placesP1 : (low high bound mark work : ℕ) → Lent
+placesP1 low high bound mark work = lentRows (sevens low) (sevens high) (sevens bound) (sevens mark) (sevens work)
+
+-- which are too few
+abbrev tooFewP1 : (low high bound mark work : ℕ) → Case
+tooFewP1 low high bound mark work =
+    curve jobP1 (1 ∷ 1 ∷ []) (placesP1 low high bound mark work) (refused 8 0) (placesP1 low high bound mark work)
 
 -- P2: "k 1, D 1, A -1, B 3, start 250000000 twice"
 abbrev lawP2 : Law
@@ -193,7 +209,7 @@ startP2 = startOf 250000000 250000000
 
 -- "Lows and highs 250000000, 500000000, 250000000, 0, 0"
 abbrev rowsP2 : (bounds : List ℕ) (X : ℕ) → Lent
-rowsP2 bounds = holding
+rowsP2 bounds = holding (1 ∷ 1 ∷ 1 ∷ 1 ∷ 1 ∷ [])
     (map pos (250000000 ∷ 500000000 ∷ 250000000 ∷ 0 ∷ 0 ∷ []))
     (map pos (250000000 ∷ 500000000 ∷ 250000000 ∷ 0 ∷ 0 ∷ []))
     (map pos bounds)
@@ -207,7 +223,8 @@ startP4 = startOf 400000001 400000001
 
 -- "At 1: 0, 0 .. At 2: 200000000, 200000001"
 abbrev rowsP4 : (bounds : List ℕ) (X : ℕ) → Lent
-rowsP4 bounds = holding (map pos (400000001 ∷ 0 ∷ 200000000 ∷ [])) (map pos (400000001 ∷ 0 ∷ 200000001 ∷ [])) (map pos bounds)
+rowsP4 bounds = holding (1 ∷ 1 ∷ 0 ∷ []) (map pos (400000001 ∷ 0 ∷ 200000000 ∷ [])) (map pos (400000001 ∷ 0 ∷ 200000001 ∷ []))
+    (map pos bounds)
 
 -- P6: "D 1, A 0, B 1, start 0 and U"
 abbrev lawP6 : Law
@@ -224,7 +241,7 @@ abbrev startOne : Start
 startOne = startOf 400000001 400000002
 
 abbrev rowsOne : (X : ℕ) → Lent
-rowsOne = holding (map pos (400000001 ∷ 400000001 ∷ 400000001 ∷ [])) (map pos (400000002 ∷ 400000002 ∷ 400000002 ∷ []))
+rowsOne = holding (1 ∷ 1 ∷ 1 ∷ []) (map pos (400000001 ∷ 400000001 ∷ 400000001 ∷ [])) (map pos (400000002 ∷ 400000002 ∷ 400000002 ∷ []))
     (map pos (1 ∷ 1 ∷ 2 ∷ []))
 
 abbrev pub cases : List Case
@@ -235,10 +252,10 @@ cases =
     ∷ row lawP2 startP2 4 (1 ∷ []) accepted (rowsP2 (0 ∷ 0 ∷ 1 ∷ 1 ∷ 2 ∷ []))
     -- P3: "At 1: low -1, high 0, bound 2."
     ∷ row (law 1 2 (negℤ (pos 1) ∷ []) (pos 0 ∷ [])) (startOf 1 2) 1 (1 ∷ []) accepted
-    (holding (pos 1 ∷ negℤ (pos 1) ∷ []) (pos 2 ∷ pos 0 ∷ []) (pos 1 ∷ pos 2 ∷ []))
+    (holding (1 ∷ 0 ∷ []) (pos 1 ∷ negℤ (pos 1) ∷ []) (pos 2 ∷ pos 0 ∷ []) (pos 1 ∷ pos 2 ∷ []))
     -- "P3 with start 1 twice": "The rule gives low -1, high 0, bound 1."
     ∷ row (law 1 2 (negℤ (pos 1) ∷ []) (pos 0 ∷ [])) (startOf 1 1) 1 (1 ∷ []) accepted
-    (holding (pos 1 ∷ negℤ (pos 1) ∷ []) (pos 1 ∷ pos 0 ∷ []) (pos 0 ∷ pos 1 ∷ []))
+    (holding (1 ∷ 0 ∷ []) (pos 1 ∷ negℤ (pos 1) ∷ []) (pos 1 ∷ pos 0 ∷ []) (pos 0 ∷ pos 1 ∷ []))
     -- P4: "X 2"; "P4's become 0, 0, 1"
     ∷ row lawP4 startP4 2 (1 ∷ []) accepted (rowsP4 (0 ∷ 0 ∷ 1 ∷ []))
     -- the same law with D 2, so that row 0's divisor is never 1 and row 1's is; then with W 2, so that neither is
@@ -246,21 +263,21 @@ cases =
     ∷ row lawP4 startP4 2 (2 ∷ []) accepted (rowsP4 (0 ∷ 1 ∷ 2 ∷ []))
     -- the same at order 4, where what row 3 has at total 3 came through rows 1 and 2
     ∷ row (law 4 2 [] (map pos (0 ∷ 0 ∷ 0 ∷ 4 ∷ []))) startP4 4 (1 ∷ []) accepted
-    (holding (map pos (400000001 ∷ 0 ∷ 0 ∷ 0 ∷ 200000000 ∷ [])) (map pos (400000001 ∷ 0 ∷ 0 ∷ 0 ∷ 200000001 ∷ []))
+    (holding (1 ∷ 1 ∷ 1 ∷ 1 ∷ 0 ∷ []) (map pos (400000001 ∷ 0 ∷ 0 ∷ 0 ∷ 200000000 ∷ [])) (map pos (400000001 ∷ 0 ∷ 0 ∷ 0 ∷ 200000001 ∷ []))
     (map pos (0 ∷ 1 ∷ 1 ∷ 1 ∷ 1 ∷ [])))
     -- P5: "refusal 9 at 1"
     ∷ row (law 1 1 (pos 0 ∷ []) (pos 3 ∷ [])) (startOf 1000000000 1000000000) 1 (1 ∷ []) (refused 9 1) cleared
     -- "With B 2: accepted, 2U."
     ∷ row (law 1 1 (pos 0 ∷ []) (pos 2 ∷ [])) (startOf 1000000000 1000000000) 1 (1 ∷ []) accepted
-    (holding (map pos (1000000000 ∷ 2000000000 ∷ [])) (map pos (1000000000 ∷ 2000000000 ∷ [])) (map pos (0 ∷ 0 ∷ [])))
+    (holding (1 ∷ 1 ∷ []) (map pos (1000000000 ∷ 2000000000 ∷ [])) (map pos (1000000000 ∷ 2000000000 ∷ [])) (map pos (0 ∷ 0 ∷ [])))
     -- P6: "X 1"; "P6 is now accepted with bound U"
     ∷ row lawP6 startP6 1 (1 ∷ []) accepted
-    (holding (map pos (0 ∷ 0 ∷ [])) (map pos (1000000000 ∷ 1000000000 ∷ [])) (map pos (1000000000 ∷ 1000000000 ∷ [])))
+    (holding (1 ∷ 1 ∷ []) (map pos (0 ∷ 0 ∷ [])) (map pos (1000000000 ∷ 1000000000 ∷ [])) (map pos (1000000000 ∷ 1000000000 ∷ [])))
     -- "with weights 1 and 1 and B 2 it gives 10 at 1"
     ∷ row (law 1 1 (pos 0 ∷ []) (pos 2 ∷ [])) startP6 1 (1 ∷ 1 ∷ []) (refused 10 1) cleared
     -- "With X 0: accepted."
     ∷ row lawP6 startP6 0 (1 ∷ []) accepted
-    (holding (map pos (0 ∷ [])) (map pos (1000000000 ∷ [])) (map pos (1000000000 ∷ [])))
+    (holding (1 ∷ []) (map pos (0 ∷ [])) (map pos (1000000000 ∷ [])) (map pos (1000000000 ∷ [])))
     -- P7: "P2 with w(1) 1,000 is accepted; with 1,001 it gives 6."; the divisor is above 1 at total 1 too, although D is 1
     ∷ row lawP2 startP2 4 (1000 ∷ []) accepted (rowsP2 (0 ∷ 1 ∷ 2 ∷ 1 ∷ 2 ∷ []))
     ∷ row lawP2 startP2 4 (1001 ∷ []) (refused 6 0) untouched
@@ -270,21 +287,21 @@ cases =
     ∷ row (law 5 1 (negℤ (pos 1) ∷ []) (pos 3 ∷ [])) startP2 4 (1 ∷ []) (refused 1 0) untouched
     -- one claim in three closes at nothing: P1's law, of mean 1, has the amounts of mean 2/3
     ∷ zeros (jobP1 .law) (startOf 600000000 600000000) 2 1 (1 ∷ 1 ∷ []) accepted
-    (holding (map pos (600000000 ∷ 200000000 ∷ 233333333 ∷ [])) (map pos (600000000 ∷ 200000000 ∷ 233333334 ∷ []))
+    (holding (1 ∷ 1 ∷ 0 ∷ []) (map pos (600000000 ∷ 200000000 ∷ 233333333 ∷ [])) (map pos (600000000 ∷ 200000000 ∷ 233333334 ∷ []))
     (map pos (0 ∷ 1 ∷ 2 ∷ [])))
     -- one in two: A below 0, P2's law of 2 trials of chance 1/2 has the amounts of chance 1/4
     ∷ zeros lawP2 (startOf 562500000 562500000) 3 1 (1 ∷ []) accepted
-    (holding (map pos (562500000 ∷ 375000000 ∷ 62500000 ∷ 0 ∷ [])) (map pos (562500000 ∷ 375000000 ∷ 62500000 ∷ 0 ∷ []))
+    (holding (1 ∷ 1 ∷ 1 ∷ 1 ∷ []) (map pos (562500000 ∷ 375000000 ∷ 62500000 ∷ 0 ∷ [])) (map pos (562500000 ∷ 375000000 ∷ 62500000 ∷ 0 ∷ []))
     (map pos (0 ∷ 1 ∷ 2 ∷ 1 ∷ [])))
     -- A above 0: the negative binomial law of shape 2 with a 1/2 has the amounts of a 1/3
     ∷ zeros (law 1 2 (pos 1 ∷ []) (pos 1 ∷ [])) (startOf 444444444 444444445) 2 1 (1 ∷ []) accepted
-    (holding (map pos (444444444 ∷ 296296296 ∷ 148148148 ∷ [])) (map pos (444444445 ∷ 296296297 ∷ 148148149 ∷ []))
+    (holding (1 ∷ 0 ∷ 0 ∷ []) (map pos (444444444 ∷ 296296296 ∷ 148148148 ∷ [])) (map pos (444444445 ∷ 296296297 ∷ 148148149 ∷ []))
     (map pos (1 ∷ 2 ∷ 2 ∷ [])))
     -- D W - A w(0) is 1, so that at total 1 nothing is rounded
     ∷ zeros lawOne startOne 2 5 (1 ∷ []) accepted rowsOne
     -- "counted in W": 999 and 1 are accepted, 1,000 and 1 are not, nor is any larger number; 6 comes before 11
     ∷ zeros lawP6 (startOf 1000 1000) 1 999 (1 ∷ []) accepted
-    (holding (map pos (1000 ∷ 1 ∷ [])) (map pos (1000 ∷ 1 ∷ [])) (map pos (0 ∷ 1 ∷ [])))
+    (holding (1 ∷ 1 ∷ []) (map pos (1000 ∷ 1 ∷ [])) (map pos (1000 ∷ 1 ∷ [])) (map pos (0 ∷ 1 ∷ [])))
     ∷ zeros lawP6 (startOf 1000 1000) 1 1000 (1 ∷ []) (refused 6 0) untouched
     ∷ zeros lawP6 (startOf 1000 1000) 1 18446744073709551615 (1 ∷ []) (refused 6 0) untouched
     ∷ zeros lawP4 startP4 2 1000 (1 ∷ []) (refused 6 0) untouched
@@ -297,26 +314,74 @@ cases =
     ∷ zeros (law 1 1 (pos 2 ∷ []) (pos 0 ∷ [])) startP4 1 1 (1 ∷ []) (refused 12 0) untouched
     ∷ zeros (law 1 1 (pos 3 ∷ []) (pos 0 ∷ [])) startP4 1 1 (1 ∷ []) (refused 12 0) untouched
     ∷ zeros (law 1 1 (pos 2 ∷ []) (pos 0 ∷ [])) (startOf 5 6) 1 1 (1 ∷ 1 ∷ []) accepted
-    (holding (map pos (5 ∷ 10 ∷ [])) (map pos (6 ∷ 12 ∷ [])) (map pos (1 ∷ 2 ∷ [])))
+    (holding (1 ∷ 1 ∷ []) (map pos (5 ∷ 10 ∷ [])) (map pos (6 ∷ 12 ∷ [])) (map pos (1 ∷ 2 ∷ [])))
     ∷ zeros lawOne startOne 1 1 (0 ∷ []) (refused 12 0) untouched
     -- "then 13 a table whose other weights are all 0", before 7
     ∷ zeros lawP6 startP6 501 1 (0 ∷ 0 ∷ []) (refused 13 0) untouched
+    -- "8, a row below X+1 places", the fourth among them, or the work row below "12 times (X+1) places": just enough, and one less of each
+    ∷ curve jobP1 (1 ∷ 1 ∷ []) (placesP1 4 4 4 4 48) accepted (lentRows lowP1 highP1 boundP1 (map pos marksP1) (replicate 48 (pos 0)))
+    ∷ tooFewP1 3 4 4 4 48
+    ∷ tooFewP1 4 3 4 4 48
+    ∷ tooFewP1 4 4 3 4 48
+    ∷ tooFewP1 4 4 4 3 48
+    ∷ tooFewP1 4 4 4 4 47
+    -- exact throughout: three tosses, each end for its own start
+    ∷ row (law 1 1 (negℤ (pos 1) ∷ []) (pos 4 ∷ [])) (startOf 0 125000000) 4 (1 ∷ []) accepted
+    (holding (1 ∷ 1 ∷ 1 ∷ 1 ∷ 1 ∷ []) (map pos (0 ∷ 0 ∷ 0 ∷ 0 ∷ 0 ∷ []))
+    (map pos (125000000 ∷ 375000000 ∷ 375000000 ∷ 125000000 ∷ 0 ∷ []))
+    (map pos (125000000 ∷ 375000000 ∷ 375000001 ∷ 125000002 ∷ 1 ∷ [])))
+    -- the tenth half of U leaves a remainder
+    ∷ row (law 1 2 (pos 1 ∷ []) (pos 0 ∷ [])) (startOf 1000000000 1000000000) 10 (1 ∷ []) accepted
+    (holding (replicate 10 1 ++ (0 ∷ []))
+    (map pos (1000000000 ∷ 500000000 ∷ 250000000 ∷ 125000000 ∷ 62500000 ∷ 31250000 ∷ 15625000 ∷ 7812500 ∷ 3906250 ∷ 1953125 ∷ 976562 ∷ []))
+    (map pos (1000000000 ∷ 500000000 ∷ 250000000 ∷ 125000000 ∷ 62500000 ∷ 31250000 ∷ 15625000 ∷ 7812500 ∷ 3906250 ∷ 1953125 ∷ 976563 ∷ []))
+    (map pos (0 ∷ 1 ∷ replicate 9 2)))
+    -- "neither sum's division left a remainder": that of the high sum alone does, and that of the low sum alone
+    ∷ row (law 1 2 (pos 1 ∷ []) (pos 0 ∷ [])) (startOf 2 3) 1 (1 ∷ []) accepted
+    (holding (1 ∷ 0 ∷ []) (map pos (2 ∷ 1 ∷ [])) (map pos (3 ∷ 2 ∷ [])) (map pos (1 ∷ 2 ∷ [])))
+    ∷ row (law 1 2 (pos 1 ∷ []) (pos 0 ∷ [])) (startOf 3 4) 1 (1 ∷ []) accepted
+    (holding (1 ∷ 0 ∷ []) (map pos (3 ∷ 1 ∷ [])) (map pos (4 ∷ 2 ∷ [])) (map pos (1 ∷ 2 ∷ [])))
+    -- "under a negative factor, has equal ends": here it has not, so that total 2 has no mark, though it is right; and here it has
+    ∷ row (law 1 1 (negℤ (pos 1) ∷ []) (pos 0 ∷ [])) (startOf 4 6) 2 (1 ∷ []) accepted
+    (holding (1 ∷ 0 ∷ 0 ∷ []) (pos 4 ∷ negℤ (pos 6) ∷ pos 4 ∷ []) (pos 6 ∷ negℤ (pos 4) ∷ pos 6 ∷ []) (map pos (2 ∷ 2 ∷ 3 ∷ [])))
+    ∷ row (law 1 1 (negℤ (pos 1) ∷ []) (pos 0 ∷ [])) (startOf 5 5) 2 (1 ∷ []) accepted
+    (holding (1 ∷ 1 ∷ 1 ∷ []) (pos 5 ∷ negℤ (pos 5) ∷ pos 5 ∷ []) (pos 5 ∷ negℤ (pos 5) ∷ pos 5 ∷ []) (map pos (0 ∷ 0 ∷ 1 ∷ [])))
+    -- the same where at total 2 severity 1 has a negative factor and severity 2 has none
+    ∷ row (law 1 1 (negℤ (pos 2) ∷ []) (pos 3 ∷ [])) (startOf 16 24) 2 (1 ∷ 1 ∷ []) accepted
+    (holding (1 ∷ 1 ∷ 0 ∷ []) (map pos (16 ∷ 8 ∷ 5 ∷ [])) (map pos (24 ∷ 12 ∷ 10 ∷ [])) (map pos (8 ∷ 5 ∷ 7 ∷ [])))
+    ∷ row (law 1 1 (negℤ (pos 2) ∷ []) (pos 3 ∷ [])) (startOf 16 16) 2 (1 ∷ 1 ∷ []) accepted
+    (holding (1 ∷ 1 ∷ 1 ∷ []) (map pos (16 ∷ 8 ∷ 6 ∷ [])) (map pos (16 ∷ 8 ∷ 6 ∷ [])) (map pos (0 ∷ 1 ∷ 2 ∷ [])))
+    -- "every entry used with a nonzero factor and weight": total 2 has factor 0 on total 1, and total 3 weight 0 on total 2
+    ∷ row (law 1 2 (negℤ (pos 1) ∷ []) (pos 2 ∷ [])) (startOf 1 1) 2 (1 ∷ []) accepted
+    (holding (1 ∷ 0 ∷ 1 ∷ []) (map pos (1 ∷ 0 ∷ 0 ∷ [])) (map pos (1 ∷ 1 ∷ 0 ∷ [])) (map pos (0 ∷ 1 ∷ 1 ∷ [])))
+    ∷ row (law 1 3 (pos 0 ∷ []) (pos 1 ∷ [])) (startOf 1 1) 3 (0 ∷ 1 ∷ []) accepted
+    (holding (1 ∷ 1 ∷ 0 ∷ 1 ∷ []) (map pos (1 ∷ 0 ∷ 0 ∷ 0 ∷ [])) (map pos (1 ∷ 0 ∷ 1 ∷ 0 ∷ [])) (map pos (0 ∷ 1 ∷ 1 ∷ 2 ∷ [])))
+    -- an entry of row 1 that is not exact: total 2 uses it, and nothing is left over; then it is exact; then its factor is 0
+    ∷ row (law 2 1 [] (pos 0 ∷ pos 4 ∷ [])) (startOf 1 1) 2 (1 ∷ 1 ∷ []) accepted
+    (holding (1 ∷ 1 ∷ 0 ∷ []) (map pos (1 ∷ 0 ∷ 0 ∷ [])) (map pos (1 ∷ 0 ∷ 1 ∷ [])) (map pos (0 ∷ 1 ∷ 2 ∷ [])))
+    ∷ row (law 2 1 [] (pos 0 ∷ pos 4 ∷ [])) (startOf 2 2) 2 (1 ∷ 1 ∷ []) accepted
+    (holding (1 ∷ 1 ∷ 1 ∷ []) (map pos (2 ∷ 0 ∷ 1 ∷ [])) (map pos (2 ∷ 0 ∷ 1 ∷ [])) (map pos (0 ∷ 1 ∷ 2 ∷ [])))
+    ∷ row (law 2 1 [] []) (startOf 1 1) 2 (1 ∷ 1 ∷ []) accepted
+    (holding (1 ∷ 1 ∷ 1 ∷ []) (map pos (1 ∷ 0 ∷ 0 ∷ [])) (map pos (1 ∷ 0 ∷ 0 ∷ [])) (map pos (0 ∷ 1 ∷ 1 ∷ [])))
+    -- an entry of row 2, at total 2, by which total 3 has no mark
+    ∷ row (law 3 1 [] (map pos (0 ∷ 0 ∷ 6 ∷ []))) (startOf 2 2) 3 (1 ∷ 1 ∷ []) accepted
+    (holding (1 ∷ 1 ∷ 1 ∷ 0 ∷ []) (map pos (2 ∷ 0 ∷ 0 ∷ 0 ∷ [])) (map pos (2 ∷ 0 ∷ 0 ∷ 1 ∷ [])) (map pos (0 ∷ 1 ∷ 3 ∷ 5 ∷ [])))
     -- P1's sheet holds P1's job
     ∷ acceptance (sheet "TERM 0 1" "W 1") jobP1 (1 ∷ 1 ∷ []) (1 ∷ 1 ∷ 7 ∷ [])
     -- and the program writes P1's rows
     ∷ program (sheet "TERM 0 1" "W 1")
-    "TOTAL LOW HIGH BOUND\n0 367879441 367879442 1\n1 183939720 183939721 2\n2 229924650 229924652 2\n3 99634015 99634016 2\n"
+    "TOTAL LOW HIGH BOUND EXACT\n0 367879441 367879442 1 Y\n1 183939720 183939721 2 N\n2 229924650 229924652 2 N\n3 99634015 99634016 2 N\n"
     -- "A line `ZERO w` stands before `SEVERITY` in every sheet": a job with a weight at 0, and a sheet without the line
     ∷ acceptance (ascii "LAW 1 1\nTERM 1 0\nSTART 400000001 400000002\nLAST 2\nZERO 5\nSEVERITY 1\nW 1\n") (jobOf lawOne startOne 2 5)
     (1 ∷ []) (1 ∷ 7 ∷ 7 ∷ [])
     ∷ program (ascii "LAW 1 1\nTERM 1 0\nSTART 400000001 400000002\nLAST 2\nZERO 5\nSEVERITY 1\nW 1\n")
-    "TOTAL LOW HIGH BOUND\n0 400000001 400000002 1\n1 400000001 400000002 1\n2 400000001 400000002 2\n"
+    "TOTAL LOW HIGH BOUND EXACT\n0 400000001 400000002 1 Y\n1 400000001 400000002 1 Y\n2 400000001 400000002 2 Y\n"
     ∷ program (ascii "LAW 1 1\nTERM 1 0\nSTART 400000001 400000002\nLAST 2\nSEVERITY 1\nW 1\n") "REFUSED 23 5\n"
     ∷ refusal (ascii "LAW 1 1\nTERM 1 0\nSTART 1 1\nLAST 2\nZERO -1\nSEVERITY 1\nW 1\n") 24 5 "-1" 39 2
     -- P3 and P6 as sheets: a low below zero, a job that the curve takes, and one that it refuses
-    ∷ program (ascii "LAW 1 2\nTERM -1 0\nSTART 1 2\nLAST 1\nZERO 0\nSEVERITY 1\nW 1\n") "TOTAL LOW HIGH BOUND\n0 1 2 1\n1 -1 0 2\n"
+    ∷ program (ascii "LAW 1 2\nTERM -1 0\nSTART 1 2\nLAST 1\nZERO 0\nSEVERITY 1\nW 1\n") "TOTAL LOW HIGH BOUND EXACT\n0 1 2 1 Y\n1 -1 0 2 N\n"
     ∷ program (ascii "LAW 1 1\nTERM 0 1\nSTART 0 1000000000\nLAST 1\nZERO 0\nSEVERITY 1\nW 1\n")
-    "TOTAL LOW HIGH BOUND\n0 0 1000000000 1000000000\n1 0 1000000000 1000000000\n"
+    "TOTAL LOW HIGH BOUND EXACT\n0 0 1000000000 1000000000 Y\n1 0 1000000000 1000000000 Y\n"
     ∷ program (ascii "LAW 1 1\nTERM 0 2\nSTART 0 1000000000\nLAST 1\nZERO 0\nSEVERITY 2\nW 1\nW 1\n") "REFUSED 10 1\n"
     -- P11: "the sheet above with `W 10n5` as its line 6 gives 24 at line 6 with the word `10n5`"; "P11's fault moves to line 7"
     ∷ refusal (sheet "TERM 0 1" "W 10n5") 24 7 "10n5" 70 4
@@ -356,14 +421,14 @@ cases =
     -- a sum that reaches the level and falls again
     ∷ level (pos 2 ∷ negℤ (pos 5) ∷ []) (pos 2 ∷ negℤ (pos 5) ∷ []) (pos 2) (found 0) (found 0)
     -- layers on the rows of P1: from 0 to 4 the savings are 4, 3, 2 and 1, from 1 to 3 they are 2, 2, 1 and 0, from 3 to 4 they are 1
-    ∷ layers lowP1 highP1 (between (0 ∷ 1 ∷ 3 ∷ []) (4 ∷ 3 ∷ 4 ∷ [])) (marks 5) (marks 3)
-    (priced (map pos (1417179749 ∷ 666437022 ∷ 118622169 ∷ [])) (map pos (1417179761 ∷ 666437028 ∷ 118622174 ∷ [])) (marks 2) [])
+    ∷ layers lowP1 highP1 (between (0 ∷ 1 ∷ 3 ∷ []) (4 ∷ 3 ∷ 4 ∷ [])) (sevens 5) (sevens 3)
+    (priced (map pos (1417179749 ∷ 666437022 ∷ 118622169 ∷ [])) (map pos (1417179761 ∷ 666437028 ∷ 118622174 ∷ [])) (sevens 2) [])
     -- the largest numbers: from 0 to 501 the savings come to 125751
-    ∷ layers (replicate 501 (negℤ (pos 2000000000))) (replicate 501 (pos 2000000000)) (between (0 ∷ []) (501 ∷ [])) (marks 1) (marks 2)
-    (priced (negℤ (pos 251001000000000) ∷ []) (pos 252003000000000 ∷ []) [] (marks 1))
+    ∷ layers (replicate 501 (negℤ (pos 2000000000))) (replicate 501 (pos 2000000000)) (between (0 ∷ []) (501 ∷ [])) (sevens 1) (sevens 2)
+    (priced (negℤ (pos 251001000000000) ∷ []) (pos 252003000000000 ∷ []) [] (sevens 1))
     -- 64 layers, and "longer than 64"
-    ∷ layers (pos 5 ∷ []) (pos 7 ∷ []) (between (replicate 64 0) (replicate 64 1)) (marks 64) (marks 65)
-    (priced (replicate 64 (pos 999999993)) (replicate 64 (pos 999999995)) [] (marks 1))
+    ∷ layers (pos 5 ∷ []) (pos 7 ∷ []) (between (replicate 64 0) (replicate 64 1)) (sevens 64) (sevens 65)
+    (priced (replicate 64 (pos 999999993)) (replicate 64 (pos 999999995)) [] (sevens 1))
     ∷ notPriced (pos 5 ∷ []) (pos 7 ∷ []) (layerList 65 (replicate 64 0) (replicate 64 1)) 65 65 61 0
     -- "31 and 33 come first", before "a list that is empty"
     ∷ notPriced [] [] (between [] []) 1 1 31 0
@@ -438,7 +503,7 @@ abbrev pub sameRow : List ℤ → List ℤ → Bool
 sameRow = sameList sameInteger
 
 abbrev pub rows : Lent → List (List ℤ)
-rows lent = lent .low ∷ lent .high ∷ lent .bound ∷ lent .work ∷ []
+rows lent = lent .low ∷ lent .high ∷ lent .bound ∷ lent .mark ∷ lent .work ∷ []
 
 abbrev pub sameLent : Lent → Lent → Bool
 sameLent x y = sameList sameRow (rows x) (rows y)

@@ -16,13 +16,15 @@ use Rattle.algebra.proofs.Smallest.{smallest-finds}
 use Rattle.model.specs.declared.Job.{Job}
 use Rattle.model.specs.Answer.{accepted, firstOf}
 use Rattle.model.proofs.Answer.{none-holds, first-passed}
+use Rattle.model.specs.Mark.{markOf}
 use Rattle.enclosure.specs.declared.Entry.{Entry}
 use Rattle.enclosure.specs.Term.{entryOf, Small}
 use Rattle.rows.specs.Curve.{curveRows}
-use Rattle.rows.specs.Layout.{Lent, LongEnough}
+use Rattle.rows.specs.Exact.{curveMarks}
 use Rattle.rows.specs.Faults.{faultAt, firstFault}
 use Rattle.rows.specs.Limits.{Limits}
 use Rattle.rows.proofs.Filled.{small}
+use Rattle.compound.specs.Lent.{Lent, LongEnough}
 use Rattle.compound.specs.Call.{checks, faults, curveAnswer, rowAfter, ran, curveLent}
 use Rattle.compound.proofs.Call.{checked-limits, zeros-refused}
 
@@ -49,24 +51,18 @@ module _ (job : Job) (weights : List ℕ) (lent : Lent) (ok : curveAnswer job we
   unfolding curveAnswer curveLent
   lent-ran = ap (λ (t : Bool). cond t (ran job weights lent) lent) (first-passed (checks job weights lent) (faults job weights) tt ok)
 
-  -- a column of row 0, from total 0 to X
-  abbrev entry : (Entry → ℤ) → ℕ → ℤ
-  entry column x = column (curveRows job weights 0 x)
-
-  abbrev entries : (Entry → ℤ) → List ℤ
-  entries column = listed (entry column) (job .last + 1)
-
-  row-listed : (column : Entry → ℤ) → rowAfter column job weights ≡ entries column
+  -- numbers by total, from total 0 to X
+  row-listed : (number : ℕ → ℤ) → rowAfter number job weights ≡ listed number (job .last + 1)
   unfolding rowAfter
-  row-listed column = rw (passed .2)
+  row-listed number = rw (passed .2)
 
-  row-at : (column : Entry → ℤ) (row : List ℤ) (x : ℕ) → x ≤ job .last
-      → getD (written (rowAfter column job weights) row) x (pos 0) ≡ entry column x
-  row-at column row x l =
-      ap (λ (front : List ℤ). getD (written front row) x (pos 0)) (row-listed column)
-      ∙ List·getD-append (entries column) (drop (length (entries column)) row) (pos 0) x
-      (omega (arith, listed-length (entry column) (job .last + 1)))
-      ∙ listed-at (entry column) (job .last + 1) x (pos 0) (omega arith)
+  row-at : (number : ℕ → ℤ) (row : List ℤ) (x : ℕ) → x ≤ job .last
+      → getD (written (rowAfter number job weights) row) x (pos 0) ≡ number x
+  row-at number row x l =
+      ap (λ (front : List ℤ). getD (written front row) x (pos 0)) (row-listed number)
+      ∙ List·getD-append (listed number (job .last + 1)) (drop (length (listed number (job .last + 1))) row) (pos 0) x
+      (omega (arith, listed-length number (job .last + 1)))
+      ∙ listed-at number (job .last + 1) x (pos 0) (omega arith)
 
   -- the entry at total x of the lent rows on return
   abbrev returned : ℕ → Entry
@@ -74,24 +70,28 @@ module _ (job : Job) (weights : List ℕ) (lent : Lent) (ok : curveAnswer job we
 
   pub shows : (x : ℕ) → x ≤ job .last → returned x ≡ curveRows job weights 0 x
   shows x l = rw lent-ran (λ i. record {
-    low = row-at (λ e. e .low) (lent .low) x l i;
-    high = row-at (λ e. e .high) (lent .high) x l i;
-    bound = row-at (λ e. e .bound) (lent .bound) x l i;
+    low = row-at (λ z. curveRows job weights 0 z .low) (lent .low) x l i;
+    high = row-at (λ z. curveRows job weights 0 z .high) (lent .high) x l i;
+    bound = row-at (λ z. curveRows job weights 0 z .bound) (lent .bound) x l i;
   })
+
+  -- and its mark
+  pub shows-mark : (x : ℕ) → x ≤ job .last → getD (curveLent job weights lent .mark) x (pos 0) ≡ markOf (curveMarks job weights 0 x)
+  shows-mark x l = rw lent-ran (row-at (λ z. markOf (curveMarks job weights 0 z)) (lent .mark) x l)
 
   pub entry-small : (x : ℕ) → x < job .last + 1 → Small (returned x)
   entry-small x l = subst Small (sym (shows x (omega arith))) (small job weights limits 0 x (limits .law .order-least) (no-fault x l))
 
   -- a lent row that is long enough still is on return
-  row-long : (column : Entry → ℤ) (row : List ℤ) → job .last + 1 ≤ length row
-      → job .last + 1 ≤ length (written (rowAfter column job weights) row)
-  row-long column row h = rw (
-    row-listed column,
-    written-length (entries column) row (omega (arith, listed-length (entry column) (job .last + 1))),
+  row-long : (number : ℕ → ℤ) (row : List ℤ) → job .last + 1 ≤ length row
+      → job .last + 1 ≤ length (written (rowAfter number job weights) row)
+  row-long number row h = rw (
+    row-listed number,
+    written-length (listed number (job .last + 1)) row (omega (arith, listed-length number (job .last + 1))),
   ) h
 
   pub lows-long : job .last + 1 ≤ length (curveLent job weights lent .low)
-  lows-long = rw lent-ran (row-long (λ e. e .low) (lent .low) (passed .1 .low-long))
+  lows-long = rw lent-ran (row-long (λ z. curveRows job weights 0 z .low) (lent .low) (passed .1 .entries .low-long))
 
   pub highs-long : job .last + 1 ≤ length (curveLent job weights lent .high)
-  highs-long = rw lent-ran (row-long (λ e. e .high) (lent .high) (passed .1 .high-long))
+  highs-long = rw lent-ran (row-long (λ z. curveRows job weights 0 z .high) (lent .high) (passed .1 .entries .high-long))

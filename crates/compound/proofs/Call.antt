@@ -19,8 +19,9 @@ use Rattle.model.specs.Answer.{Condition, accepted, firstOf}
 use Rattle.model.proofs.Answer.{none-holds}
 use Rattle.model.proofs.Tests.{within}
 use Rattle.model.specs.Limits.{unit, mostOrder, mostLast, beyond}
-use Rattle.rows.specs.Layout.{Lent, workPlaces, LongEnough}
+use Rattle.rows.specs.Layout.{workPlaces}
 use Rattle.rows.specs.Limits.{Limits}
+use Rattle.compound.specs.Lent.{Lent, LongEnough}
 use Rattle.compound.specs.Call.{termLimit, wrongTerm, firstWrongTerm, shorter, tooShort, checks}
 
 -- ---- checks 1 to 8, and 11 to 13 among them
@@ -89,13 +90,18 @@ module _ (job : Job) (weights : List ℕ) (lent : Lent) where
           let low = shorter (job .last + 1) (lent .low) in
           let high = shorter (job .last + 1) (lent .high) in
           let bound = shorter (job .last + 1) (lent .bound) in
-          let three = or-left (low || high || bound) (shorter (workPlaces (job .last + 1)) (lent .work)) e in
+          let mark = shorter (job .last + 1) (lent .mark) in
+          let four = or-left (low || high || bound || mark) (shorter (workPlaces (job .last + 1)) (lent .work)) e in
+          let three = or-left (low || high || bound) mark four in
           let two = or-left (low || high) bound three in
           record {
-            low-long = ltb-false _ _ (or-left low high two);
-            high-long = ltb-false _ _ (or-right low high two);
-            bound-long = ltb-false _ _ (or-right (low || high) bound three);
-            work-long = ltb-false _ _ (or-right (low || high || bound) (shorter (workPlaces (job .last + 1)) (lent .work)) e);
+            entries = record {
+              low-long = ltb-false _ _ (or-left low high two);
+              high-long = ltb-false _ _ (or-right low high two);
+              bound-long = ltb-false _ _ (or-right (low || high) bound three);
+              work-long = ltb-false _ _ (or-right (low || high || bound || mark) (shorter (workPlaces (job .last + 1)) (lent .work)) e);
+            };
+            mark-long = ltb-false _ _ (or-right (low || high || bound) mark four);
           }
 
 -- "a nonzero weight at 0 when k is above 1" is refused: further rows, of which there are k - 1, have a table without zeros

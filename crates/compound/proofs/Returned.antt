@@ -12,20 +12,26 @@ use Rattle.algebra.specs.Slice.{listed, written}
 use Rattle.model.specs.declared.Job.{Job}
 use Rattle.model.specs.Answer.{Answer, accepted, refused, isAccepted, firstOf}
 use Rattle.model.proofs.Answer.{first-none, first-holds, first-fails, first-append}
+use Rattle.model.specs.Mark.{markOf}
 use Rattle.enclosure.specs.declared.Entry.{Entry}
 use Rattle.enclosure.specs.Term.{entryOf}
 use Rattle.rows.specs.Curve.{curveRows}
+use Rattle.rows.specs.Exact.{curveMarks}
 use Rattle.rows.specs.Faults.{firstFault, rangeFault}
-use Rattle.rows.specs.Layout.{Lent, lentRows, workPlaces, LongEnough}
-use Rattle.rows.specs.Progress.{Kept, Filled}
+use Rattle.rows.specs.Layout.{workPlaces}
+use Rattle.rows.specs.Progress.{Kept, Filled, MarksFilled}
 use Rattle.rows.proofs.Kept.{kept-written, kept-listed}
-use Rattle.rows.proofs.Stored.{same-lent}
+use Rattle.compound.specs.Lent.{Lent, lentRows, entriesOf, LongEnough}
 use Rattle.compound.specs.declared.Reason.{Reason}
 use Rattle.compound.specs.declared.Reason.the-variants.{Order, Divisor, Term, Start, Severities, Weights}
 use Rattle.compound.specs.declared.Reason.the-variants.{ZeroOrder, ZeroDivisor, OnlyZeros, Last, Places, Range, Bound}
 use Rattle.compound.specs.declared.CurveAnswer.{CurveAnswer}
 use Rattle.compound.specs.declared.CurveAnswer.the-variants.{Accepted, Refused}
 use Rattle.compound.specs.Call.{numberOf, paper, checks, faults, curveAnswer, rowAfter, ran, curveLent}
+
+same-lent : {l l′ h h′ b b′ m m′ w w′ : List ℤ} → l ≡ l′ → h ≡ h′ → b ≡ b′ → m ≡ m′ → w ≡ w′
+    → lentRows l h b m w ≡ lentRows l′ h′ b′ m′ w′
+same-lent p q r s t = λ i. lentRows (p i) (q i) (r i) (s i) (t i)
 
 -- ---- answers of the code
 -- no reason has the acceptance's number
@@ -59,11 +65,10 @@ module _ (job : Job) (weights : List ℕ) (lent₀ : Lent) where
   by-checks = first-append (checks job weights lent₀) (faults job weights) tt
 
   -- what the front of a row holds, by the answer of the totals
-  row-after : (column : Entry → ℤ) (b : Bool) → isAccepted (firstOf (faults job weights)) ≡ b
-      → cond b (listed (λ z. column (curveRows job weights 0 z)) places) (replicate places (pos 0)) ≡ rowAfter column job weights
+  row-after : (number : ℕ → ℤ) (b : Bool) → isAccepted (firstOf (faults job weights)) ≡ b
+      → cond b (listed number places) (replicate places (pos 0)) ≡ rowAfter number job weights
   unfolding rowAfter
-  row-after column b e =
-      ap (λ (t : Bool). cond t (listed (λ z. column (curveRows job weights 0 z)) places) (replicate places (pos 0))) (sym e)
+  row-after number b e = ap (λ (t : Bool). cond t (listed number places) (replicate places (pos 0))) (sym e)
 
   -- ---- the faults, by where the rows stopped
   -- at a total
@@ -122,7 +127,8 @@ module _ (job : Job) (weights : List ℕ) (lent₀ : Lent) where
     unfolding curveLent
     late-rows = ap (λ (b : Bool). cond b (ran job weights lent₀) lent₀) (sym late)
 
-    module _ (lent : Lent) (filled : Filled job weights lent₀ lent) (work : List ℤ)
+    module _ (lent : Lent) (filled : Filled job weights (entriesOf lent₀) (entriesOf lent))
+        (marked : MarksFilled job weights (lent₀ .mark) (lent .mark) (lent .work)) (work : List ℤ)
         (clear : work ≡ written (replicate (workPlaces places) (pos 0)) (lent .work)) where
       zeros : (row row₀ : List ℤ) (n : ℕ) → Kept n row row₀ → written (replicate n (pos 0)) row ≡ written (replicate n (pos 0)) row₀
       zeros row row₀ n = kept-written (replicate n (pos 0)) row row₀ n (length-replicate n (pos 0))
@@ -132,17 +138,20 @@ module _ (job : Job) (weights : List ℕ) (lent₀ : Lent) where
 
       -- refused at a total: the rows were cleared
       module _ (h : firstFault job weights < places) where
-        cleared : (column : Entry → ℤ) (row row₀ : List ℤ) → Kept places row row₀
-            → written (replicate places (pos 0)) row ≡ written (rowAfter column job weights) row₀
-        cleared column row row₀ k =
-            zeros row row₀ places k ∙ ap (λ (front : List ℤ). written front row₀) (row-after column false (fault-refuses h))
+        cleared : (number : ℕ → ℤ) (row row₀ : List ℤ) → Kept places row row₀
+            → written (replicate places (pos 0)) row ≡ written (rowAfter number job weights) row₀
+        cleared number row row₀ k =
+            zeros row row₀ places k ∙ ap (λ (front : List ℤ). written front row₀) (row-after number false (fault-refuses h))
 
-        pub fault-rows : (low high bound : List ℤ) → low ≡ written (replicate places (pos 0)) (lent .low)
+        pub fault-rows : (low high bound mark : List ℤ) → low ≡ written (replicate places (pos 0)) (lent .low)
             → high ≡ written (replicate places (pos 0)) (lent .high) → bound ≡ written (replicate places (pos 0)) (lent .bound)
-            → lentRows low high bound work ≡ curveLent job weights lent₀
-        fault-rows low high bound p q r =
-            same-lent (p ∙ cleared (λ e. e .low) _ _ (filled .kept .low)) (q ∙ cleared (λ e. e .high) _ _ (filled .kept .high))
-            (r ∙ cleared (λ e. e .bound) _ _ (filled .kept .bound)) work-zeros
+            → mark ≡ written (replicate places (pos 0)) (lent .mark)
+            → lentRows low high bound mark work ≡ curveLent job weights lent₀
+        fault-rows low high bound mark p q r s =
+            same-lent (p ∙ cleared (λ z. curveRows job weights 0 z .low) _ _ (filled .kept .low))
+            (q ∙ cleared (λ z. curveRows job weights 0 z .high) _ _ (filled .kept .high))
+            (r ∙ cleared (λ z. curveRows job weights 0 z .bound) _ _ (filled .kept .bound))
+            (s ∙ cleared (λ z. markOf (curveMarks job weights 0 z)) _ _ (marked .kept)) work-zeros
             ∙ late-rows
 
       -- accepted: the rows hold row 0
@@ -150,16 +159,21 @@ module _ (job : Job) (weights : List ℕ) (lent₀ : Lent) where
         shown : (z : ℕ) → z < places → entryOf (lent .low) (lent .high) (lent .bound) z ≡ curveRows job weights 0 z
         shown z l = filled .entries 0 z one (lt-of-lt-of-le l h)
 
-        held : (column : Entry → ℤ) (row row₀ : List ℤ) → places ≤ length row₀ → Kept places row row₀
-            → ((z : ℕ) → z < places → getD row z (pos 0) ≡ column (curveRows job weights 0 z))
-            → row ≡ written (rowAfter column job weights) row₀
-        held column row row₀ enough k at = kept-listed (λ z. column (curveRows job weights 0 z)) row row₀ places enough k at
-            ∙ ap (λ (front : List ℤ). written front row₀) (row-after column true (ap isAccepted (none-found h)))
+        held : (number : ℕ → ℤ) (row row₀ : List ℤ) → places ≤ length row₀ → Kept places row row₀
+            → ((z : ℕ) → z < places → getD row z (pos 0) ≡ number z) → row ≡ written (rowAfter number job weights) row₀
+        held number row row₀ enough k at = kept-listed number row row₀ places enough k at
+            ∙ ap (λ (front : List ℤ). written front row₀) (row-after number true (ap isAccepted (none-found h)))
 
-        pub end-rows : lentRows (lent .low) (lent .high) (lent .bound) work ≡ curveLent job weights lent₀
+        pub end-rows : lentRows (lent .low) (lent .high) (lent .bound) (lent .mark) work ≡ curveLent job weights lent₀
         end-rows =
-            same-lent (held (λ e. e .low) _ _ (long .low-long) (filled .kept .low) (λ z l. ap (λ (e : Entry). e .low) (shown z l)))
-            (held (λ e. e .high) _ _ (long .high-long) (filled .kept .high) (λ z l. ap (λ (e : Entry). e .high) (shown z l)))
-            (held (λ e. e .bound) _ _ (long .bound-long) (filled .kept .bound) (λ z l. ap (λ (e : Entry). e .bound) (shown z l)))
+            same-lent
+            (held (λ z. curveRows job weights 0 z .low) _ _ (long .entries .low-long) (filled .kept .low)
+            (λ z l. ap (λ (e : Entry). e .low) (shown z l)))
+            (held (λ z. curveRows job weights 0 z .high) _ _ (long .entries .high-long) (filled .kept .high)
+            (λ z l. ap (λ (e : Entry). e .high) (shown z l)))
+            (held (λ z. curveRows job weights 0 z .bound) _ _ (long .entries .bound-long) (filled .kept .bound)
+            (λ z l. ap (λ (e : Entry). e .bound) (shown z l)))
+            (held (λ z. markOf (curveMarks job weights 0 z)) _ _ (long .mark-long) (marked .kept)
+            (λ z l. marked .marks 0 z one (lt-of-lt-of-le l h)))
             work-zeros
             ∙ late-rows

@@ -19,7 +19,7 @@ use Rattle.model.proofs.Tests.{within}
 use Rattle.model.proofs.Weights.{thinned-none}
 use Rattle.enclosure.specs.Entry.{rounded}
 use Rattle.rows.specs.Curve.{firstEntry, sumsAt, entryAt, curveRows}
-use Rattle.rows.specs.Layout.{Lent}
+use Rattle.compound.specs.Lent.{Lent}
 use Rattle.rows.proofs.Recursion.{curve-rule}
 use Rattle.compound.specs.Call.{jobChecks, zeroChecks, roomChecks, faults, curveAnswer, ran, curveLent}
 use Rattle.compound.specs.ZeroWeight.{ZeroWeightAsBefore}

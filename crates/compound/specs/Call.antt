@@ -1,4 +1,4 @@
--- The curve call: "Takes the job, three lent rows (low, high, bound) and a work row."
+-- The curve call: "Takes the job, three lent rows (low, high, bound) and a work row.", with "a fourth lent row" for the marks.
 use mathlib.Core.Bool.{Bool, _&&_, _||_, cond}
 use mathlib.Core.List.{List, [], _∷_, _++_}
 use Prim.Native.Nat.{ℕ, _+_}
@@ -14,10 +14,12 @@ use Rattle.model.specs.declared.Start.{Start}
 use Rattle.model.specs.declared.Job.{Job}
 use Rattle.model.specs.Answer.{Answer, Condition, accepted, refused, isAccepted, condition, firstOf}
 use Rattle.model.specs.Limits.{unit, mostOrder, mostSeverities, mostLast, outside, beyond}
-use Rattle.enclosure.specs.declared.Entry.{Entry}
+use Rattle.model.specs.Mark.{markOf}
 use Rattle.rows.specs.Curve.{curveRows}
+use Rattle.rows.specs.Exact.{curveMarks}
 use Rattle.rows.specs.Faults.{firstFault, rangeFault}
-use Rattle.rows.specs.Layout.{Lent, workPlaces}
+use Rattle.rows.specs.Layout.{workPlaces}
+use Rattle.compound.specs.Lent.{Lent}
 use Rattle.compound.specs.declared.Reason.{Reason}
 use Rattle.compound.specs.declared.Reason.the-variants.{Order, Divisor, Term, Start as StartReason, Severities, Weights}
 use Rattle.compound.specs.declared.Reason.the-variants.{ZeroOrder, ZeroDivisor, OnlyZeros, Last, Places, Range, Bound}
@@ -46,7 +48,8 @@ paper Accepted = accepted
 paper (Refused reason place) = refused (numberOf reason) place
 
 -- ---- "1, k; 2, D; 3, a term out of range, or past k and not zero (place: the smallest i); 4, start; 5, m; 6, W; 7, X; 8, a row below X+1
--- places or the work row below 9 times (X+1)."
+-- places or the work row below 9 times (X+1)."; then "a fourth lent row, .. which 8, 9 and 10 treat like the other three", and "12 times
+-- (X+1) places, in check 8 and in what is 0 afterwards"
 -- "each from -1,000 to 1,000. Terms past k are zero.", of term i + 1
 abbrev pub termLimit : ℕ → ℕ → ℕ
 termLimit order i = cond (ltb i order) 1000 0
@@ -67,7 +70,7 @@ shorter places row = ltb (length row) places
 
 abbrev pub tooShort : ℕ → Lent → Bool
 tooShort places lent = shorter places (lent .low) || shorter places (lent .high) || shorter places (lent .bound)
-    || shorter (workPlaces places) (lent .work)
+    || shorter places (lent .mark) || shorter (workPlaces places) (lent .work)
 
 -- of the law, the start and the table
 abbrev pub jobChecks : Job → List ℕ → List Condition
@@ -111,18 +114,19 @@ faults job weights =
 unfoldable pub curveAnswer : Job → List ℕ → Lent → Answer
 curveAnswer job weights lent = firstOf (checks job weights lent ++ faults job weights)
 
--- "After 9 and 10 the first X+1 places of the three rows are 0. On acceptance they hold row 0."
-unfoldable pub rowAfter : (Entry → ℤ) → Job → List ℕ → List ℤ
-rowAfter column job weights = cond (isAccepted (firstOf (faults job weights)))
-    (listed (λ x. column (curveRows job weights 0 x)) (job .last + 1))
+-- "After 9 and 10 the first X+1 places of the three rows are 0. On acceptance they hold row 0."; so of the fourth, with row 0's marks. Of
+-- numbers by total
+unfoldable pub rowAfter : (ℕ → ℤ) → Job → List ℕ → List ℤ
+rowAfter number job weights = cond (isAccepted (firstOf (faults job weights))) (listed number (job .last + 1))
     (replicate (job .last + 1) (pos 0))
 
--- "After 9, 10 and acceptance the first 9 times (X+1) work places are 0. Later places are untouched."
+-- "The marks of row 0 go to a fourth lent row". "After 9, 10 and acceptance the first .. work places are 0. Later places are untouched."
 abbrev pub ran : Job → List ℕ → Lent → Lent
 ran job weights lent = record {
-  low = written (rowAfter (λ e. e .low) job weights) (lent .low);
-  high = written (rowAfter (λ e. e .high) job weights) (lent .high);
-  bound = written (rowAfter (λ e. e .bound) job weights) (lent .bound);
+  low = written (rowAfter (λ x. curveRows job weights 0 x .low) job weights) (lent .low);
+  high = written (rowAfter (λ x. curveRows job weights 0 x .high) job weights) (lent .high);
+  bound = written (rowAfter (λ x. curveRows job weights 0 x .bound) job weights) (lent .bound);
+  mark = written (rowAfter (λ x. markOf (curveMarks job weights 0 x)) job weights) (lent .mark);
   work = written (replicate (workPlaces (job .last + 1)) (pos 0)) (lent .work);
 }
 

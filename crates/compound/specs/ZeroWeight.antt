@@ -8,7 +8,7 @@ use Rattle.model.specs.Weights.{totalWeight, allWeight}
 use Rattle.model.specs.Answer.{isAccepted, firstOf}
 use Rattle.enclosure.specs.Entry.{rounded}
 use Rattle.rows.specs.Curve.{firstEntry, sumsAt, curveRows}
-use Rattle.rows.specs.Layout.{Lent}
+use Rattle.compound.specs.Lent.{Lent}
 use Rattle.compound.specs.Call.{jobChecks, roomChecks, faults, curveAnswer, ran, curveLent}
 
 -- its list of conditions has 11, 12 and 13 no more, and 6 is of the row's sum; where no condition but 9 and 10 holds it has run; at total 0

@@ -21,8 +21,8 @@ ghost use lib.IntN.{pos, natAbs};
 ghost use Rattle.model.specs.Weights.{totalWeight, thinnedDivisor};
 ghost use Rattle.model.specs.Answer.{isAccepted, firstOf};
 ghost use Rattle.model.specs.Limits.{mostTotals, beyond};
-ghost use Rattle.rows.specs.Layout.{lentRows};
 ghost use Rattle.rows.specs.Progress.{divisorsOf};
+ghost use Rattle.compound.specs.Lent.{lentRows};
 ghost use Rattle.compound.specs.Call.{termLimit, firstWrongTerm, wrongStart, tooShort, paper, checks};
 ghost use Rattle.compound.specs.Checked.{refusedBy};
 
@@ -114,9 +114,17 @@ fn thinned_divisor(divisor: u64, a: i64, zero: u64, total: u64) -> u64
     thinned as u64
 }
 
-fn is_too_short(places: usize, low: &[i64], high: &[i64], bound: &[i64], work: &[i64]) -> bool
+fn is_too_short(
+    places: usize,
+    low: &[i64],
+    high: &[i64],
+    bound: &[i64],
+    mark: &[i64],
+    work: &[i64],
+) -> bool
     requires { ⌜ places ≤ mostTotals ⌝ }
-    ensures { λ r. ⌜ r ≡ tooShort places (lentRows (now (low .entry)) (now (high .entry)) (now (bound .entry)) (now (work .entry))) ⌝ }
+    ensures { λ r. ⌜ r ≡ tooShort places
+        (lentRows (now (low .entry)) (now (high .entry)) (now (bound .entry)) (now (mark .entry)) (now (work .entry))) ⌝ }
 {
     if low.len() < places {
         return true;
@@ -125,6 +133,9 @@ fn is_too_short(places: usize, low: &[i64], high: &[i64], bound: &[i64], work: &
         return true;
     }
     if bound.len() < places {
+        return true;
+    }
+    if mark.len() < places {
         return true;
     }
     work.len() < WORK_COLUMNS * places
@@ -150,10 +161,11 @@ pub fn check(
     low: &[i64],
     high: &[i64],
     bound: &[i64],
+    mark: &[i64],
     work: &[i64],
 ) -> Checked
     ensures answer { λ r. ⌜ paper (r .answer) ≡ firstOf (checks job (now (weights .entry))
-        (lentRows (now (low .entry)) (now (high .entry)) (now (bound .entry)) (now (work .entry)))) ⌝ }
+        (lentRows (now (low .entry)) (now (high .entry)) (now (bound .entry)) (now (mark .entry)) (now (work .entry)))) ⌝ }
     ensures divisors { λ r. ⌜ (isAccepted (paper (r .answer)) ≡ true → r .divisors ≡ divisorsOf job (now (weights .entry))) ⌝ }
 {
     if is_outside(1, MOST_ORDER, job.law.order) {
@@ -192,7 +204,7 @@ pub fn check(
         return refused(Reason::Last, 0);
     }
     let places = job.last as usize + 1;
-    if is_too_short(places, low, high, bound, work) {
+    if is_too_short(places, low, high, bound, mark, work) {
         return refused(Reason::Places, 0);
     }
     Checked {

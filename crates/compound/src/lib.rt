@@ -13,7 +13,7 @@ ghost use lib.IntN.{pos};
 ghost use lib.ListN.{length, replicate};
 ghost use Rattle.algebra.specs.Slice.{written};
 ghost use Rattle.model.specs.Answer.{refused, isAccepted};
-ghost use Rattle.rows.specs.Layout.{lentRows};
+ghost use Rattle.compound.specs.Lent.{lentRows};
 ghost use Rattle.compound.specs.Call.{numberOf, paper, curveAnswer, curveLent};
 
 // Why the curve call refuses.
@@ -89,33 +89,36 @@ fn clear(row: &mut [i64], n: usize)
     }
 }
 
-// The curve of a job from total 0 to its last, in three lent rows. The work row is lent for the further rows of the recursion.
+// The curve of a job from total 0 to its last, in three lent rows, and its marks in a fourth. The work row is lent for the further rows of
+// the recursion.
 pub fn curve(
     job: Job,
     weights: &[u64],
     low: &mut [i64],
     high: &mut [i64],
     bound: &mut [i64],
+    mark: &mut [i64],
     work: &mut [i64],
 ) -> CurveAnswer
     ensures answer { λ r. ⌜ paper r ≡ curveAnswer job (now (weights .entry))
-        (lentRows (now (low .entry)) (now (high .entry)) (now (bound .entry)) (now (work .entry))) ⌝ }
-    ensures rows { λ r. ⌜ lentRows (now (low .exit)) (now (high .exit)) (now (bound .exit)) (now (work .exit))
+        (lentRows (now (low .entry)) (now (high .entry)) (now (bound .entry)) (now (mark .entry)) (now (work .entry))) ⌝ }
+    ensures rows { λ r. ⌜ lentRows (now (low .exit)) (now (high .exit)) (now (bound .exit)) (now (mark .exit)) (now (work .exit))
         ≡ curveLent job (now (weights .entry))
-        (lentRows (now (low .entry)) (now (high .entry)) (now (bound .entry)) (now (work .entry))) ⌝ }
+        (lentRows (now (low .entry)) (now (high .entry)) (now (bound .entry)) (now (mark .entry)) (now (work .entry))) ⌝ }
 {
-    let checked = check::check(job, weights, low, high, bound, work);
+    let checked = check::check(job, weights, low, high, bound, mark, work);
     let answer = checked.answer;
     if is_refused(answer) {
         return answer;
     }
     let places = job.last as usize + 1;
-    let stop = fill(job, checked.divisors, weights, low, high, bound, work);
+    let stop = fill(job, checked.divisors, weights, low, high, bound, mark, work);
     clear(work, WORK_COLUMNS * places);
     if stop.total < places {
         clear(low, places);
         clear(high, places);
         clear(bound, places);
+        clear(mark, places);
         return refused_at(stop);
     }
     answer

@@ -1,6 +1,6 @@
 -- Entries of a row, and what the outward rule does with them.
 use mathlib.Core.Path.{_≡_}
-use mathlib.Core.Bool.{Bool, cond, _||_}
+use mathlib.Core.Bool.{Bool, cond, _&&_, _||_}
 use Prim.Native.Nat.{ℕ, _*_}
 use lib.Dec.{ltb}
 use lib.IntN.{ℤ, pos, negsuc, negℤ, natAbs, _+ℤ_, _*ℤ_}
@@ -9,7 +9,7 @@ use mir.Syntax.{w64}
 use mir.Val.{SFits}
 use Rattle.algebra.specs.Sum.{accumulate}
 use Rattle.model.specs.Limits.{unit, beyond}
-use Rattle.outward.specs.Division.{floorDiv, ceilDiv}
+use Rattle.outward.specs.Division.{floorDiv, ceilDiv, divides}
 use Rattle.enclosure.specs.declared.Entry.{Entry}
 
 -- ---- sums of entries, column by column
@@ -64,6 +64,10 @@ allowance d = cond (ltb 1 d) (pos 1) (pos 0)
 -- the allowance
 unfoldable pub rounded : ℕ → Entry → Entry
 rounded d s = record { low = floorDiv (s .low) d; high = ceilDiv (s .high) d; bound = ceilDiv (s .bound) d +ℤ allowance d }
+
+-- "neither sum's division left a remainder", of the low sum and the high sum
+abbrev pub dividesSums : ℕ → Entry → Bool
+dividesSums d s = divides d (s .low) && divides d (s .high)
 
 -- the bound after a division comes from the bound's sum and the divisor, whatever low and high are
 abbrev pub BoundAlone : Type 0

@@ -1,5 +1,6 @@
 // What the outward rule does with entries.
 
+use super::Divided;
 use super::Entry;
 use model::limits::UNIT;
 use model::limits::is_either_beyond;
@@ -12,7 +13,7 @@ ghost use mir.Syntax.{w64};
 ghost use mir.Val.{SFits};
 ghost use Rattle.model.specs.Limits.{beyond};
 ghost use Rattle.outward.specs.Division.{ceilDiv};
-ghost use Rattle.enclosure.specs.Entry.{none, plus, minus, allowance, rounded, outOfRange, boundTooLarge, EntryFits};
+ghost use Rattle.enclosure.specs.Entry.{none, plus, minus, allowance, rounded, dividesSums, outOfRange, boundTooLarge, EntryFits};
 
 // The sum of no entries.
 pub fn none() -> Entry
@@ -56,16 +57,22 @@ fn allowance(divisor: u64) -> i64
 }
 
 // The sums divided once each, outward; the bound also has the allowance. It asks for room for the one, whatever the divisor is.
-pub fn divide_sums(sums: Entry, divisor: u64) -> Entry
+pub fn divide_sums(sums: Entry, divisor: u64) -> Divided
     requires { ⌜ (1 ≤ divisor) × (divisor < 2 ^ 63) × SFits w64 (ceilDiv (sums .bound) divisor +ℤ pos 1) ⌝ }
-    ensures { λ r. ⌜ r ≡ rounded divisor sums ⌝ }
+    ensures entry { λ r. ⌜ r .entry ≡ rounded divisor sums ⌝ }
+    ensures exact { λ r. ⌜ r .exact ≡ dividesSums divisor sums ⌝ }
 {
-    let ends = outward::divide(sums.low, sums.high, divisor);
+    let quotient = outward::divide(sums.low, sums.high, divisor);
     let bound = outward::ceil_div(sums.bound, divisor);
-    Entry {
+    let ends = quotient.ends;
+    let entry = Entry {
         low: ends.low,
         high: ends.high,
         bound: bound + allowance(divisor),
+    };
+    Divided {
+        entry,
+        exact: quotient.exact,
     }
 }
 

@@ -3,7 +3,7 @@
 ghost use mathlib.Core.Path.{_≡_};
 ghost use Prim.Native.Nat.{_≤_};
 ghost use Rattle.model.specs.Limits.{mostLast};
-ghost use Rattle.enclosure.specs.Term.{lineAt};
+ghost use Rattle.enclosure.specs.Term.{lineAt, factorOf};
 ghost use Rattle.enclosure.specs.Run.{FactorSmall, negative};
 
 // What multiplies the entry at x - y: (`constant` + `slope` times y) times w(y).
@@ -18,6 +18,14 @@ pub fn line_at(factor: Factor, y: usize) -> i64
     ensures { λ r. ⌜ r ≡ lineAt factor y ⌝ }
 {
     factor.slope * y as i64 + factor.constant
+}
+
+// The factor of severity `y`, whose weight is `weight`.
+pub fn factor_at(factor: Factor, y: usize, weight: u64) -> i64
+    requires { ⌜ FactorSmall factor × (y ≤ mostLast) × (weight ≤ 1000) ⌝ }
+    ensures { λ r. ⌜ r ≡ factorOf factor y weight ⌝ }
+{
+    line_at(factor, y) * weight as i64
 }
 
 pub fn negate(factor: Factor) -> Factor

@@ -5,6 +5,6 @@ use Prim.Native.Nat.{ℕ, _+_, _*_}
 abbrev pub versionNumber : ℕ → ℕ → ℕ → ℕ
 versionNumber major minor patch = major * 10000 + minor * 100 + patch
 
--- 0.7.0
+-- 0.8.0
 abbrev pub version : ℕ
-version = versionNumber 0 7 0
+version = versionNumber 0 8 0

@@ -7,7 +7,7 @@ use model::Job;
 use model::Law;
 use model::Start;
 ghost use mathlib.Core.Path.{_≡_};
-ghost use Rattle.rows.specs.Layout.{lentRows};
+ghost use Rattle.compound.specs.Lent.{lentRows};
 ghost use Rattle.compound.specs.Call.{paper, curveAnswer, curveLent};
 ghost use Rattle.interface.specs.Handed.{returned, jobOfNumbers};
 
@@ -43,17 +43,18 @@ pub extern "C" fn claimtotals_curve(
     low: &mut [i64],
     high: &mut [i64],
     bound: &mut [i64],
+    mark: &mut [i64],
     work: &mut [i64],
     place: &mut usize,
 ) -> u64
     ensures answer { λ r. ⌜ returned r (now (place .exit))
         ≡ curveAnswer (jobOfNumbers order divisor (now (a .entry)) (now (b .entry)) «start_low» «start_high» last zero)
         (now (weights .entry))
-        (lentRows (now (low .entry)) (now (high .entry)) (now (bound .entry)) (now (work .entry))) ⌝ }
-    ensures rows { λ r. ⌜ lentRows (now (low .exit)) (now (high .exit)) (now (bound .exit)) (now (work .exit))
+        (lentRows (now (low .entry)) (now (high .entry)) (now (bound .entry)) (now (mark .entry)) (now (work .entry))) ⌝ }
+    ensures rows { λ r. ⌜ lentRows (now (low .exit)) (now (high .exit)) (now (bound .exit)) (now (mark .exit)) (now (work .exit))
         ≡ curveLent (jobOfNumbers order divisor (now (a .entry)) (now (b .entry)) «start_low» «start_high» last zero)
         (now (weights .entry))
-        (lentRows (now (low .entry)) (now (high .entry)) (now (bound .entry)) (now (work .entry))) ⌝ }
+        (lentRows (now (low .entry)) (now (high .entry)) (now (bound .entry)) (now (mark .entry)) (now (work .entry))) ⌝ }
 {
     let law = Law {
         order,
@@ -71,7 +72,7 @@ pub extern "C" fn claimtotals_curve(
         last,
         zero,
     };
-    let answer = curve(job, weights, low, high, bound, work);
+    let answer = curve(job, weights, low, high, bound, mark, work);
     *place = place_of(answer);
     number_of(answer)
 }

@@ -5,7 +5,7 @@ ghost use Rattle.interface.specs.Version.{version};
 
 const MAJOR: u64 = 0;
 
-const MINOR: u64 = 7;
+const MINOR: u64 = 8;
 
 const PATCH: u64 = 0;
 

@@ -1,16 +1,19 @@
 -- The floor by the division with remainder of natural numbers, at each sign; the ceiling is the floor with the signs turned. By 1 nothing
 -- is rounded. Of natural numbers the ceiling is one too; and an interval is known by its two ends.
-use mathlib.Core.Path.{_≡_, refl, _∙_, ap}
-use Prim.Native.Nat.{ℕ, zero, suc, _+_, _*_, _/_, _≤_, _<_, zero-le, suc-le-suc}
-use native.Mathlib.Nat.{mul-div-le, lt-mul-div-succ, div-le-self, div-one, zero-div}
+use mathlib.Core.Path.{_≡_, refl, sym, _∙_, ap}
+use Prim.Native.Nat.{ℕ, zero, suc, _+_, _*_, _/_, _%_, _≤_, _<_, zero-le, suc-le-suc}
+use native.Mathlib.Nat.{mul-div-le, lt-mul-div-succ, div-le-self, div-one, zero-div, div-add-mod}
+use native.Mathlib.Nat.{div-add-mod', div-eq-of-lt-le, mod-lt, mul-mod-right}
+use native.Mathlib.Omega.{arith}
+use borrow.Author.Tests.{eqb-true, eq-eqb}
 use lib.Dec.{le→leb}
 use lib.IntN.{ℤ, pos, negsuc, negℤ, natAbs, _+ℤ_, _*ℤ_, negℤ-negℤ}
 use lib.Signed.{_≤ℤ_, _<ℤ_, leZ-yes}
 use Rattle.algebra.proofs.Integer.{integers, signed, split-add, split-mul, split-neg}
 use Rattle.algebra.proofs.Ring.{mul-neg}
-use Rattle.algebra.proofs.Size.{size-neg}
+use Rattle.algebra.proofs.Size.{size-neg, size-mul}
 use Rattle.outward.specs.declared.Interval.{Interval}
-use Rattle.outward.specs.Division.{floorDiv, ceilDiv, FloorIs, CeilIs}
+use Rattle.outward.specs.Division.{floorDiv, ceilDiv, divides, FloorIs, CeilIs, DividesIs, DividesMultiple}
 
 pub floor-is : FloorIs
 unfolding floorDiv
@@ -31,6 +34,41 @@ ceil-is z n l = turned (floorDiv (negℤ z) n) (floor-is (negℤ z) n l)
       omega (signed, split-neg z, split-neg (pos n *ℤ q)),
       omega (signed, split-neg z, split-neg (pos n *ℤ q), split-add (pos n *ℤ q) (pos n), split-add z (pos n)),
     )
+
+-- ---- the quotient of the next natural number: the same, or one more where nothing is left over
+pub next-rest : (a n : ℕ) → 1 ≤ n → 0 < suc a % n → suc a / n ≡ a / n
+next-rest a n l h =
+    let whole = div-add-mod' (suc a) n in
+    sym (div-eq-of-lt-le n (omega arith) (omega (arith, mod-lt (suc a) l)))
+
+pub next-whole : (a n : ℕ) → 1 ≤ n → suc a % n ≡ 0 → suc a / n ≡ suc (a / n)
+next-whole a n l e = by (suc a / n) (div-add-mod' (suc a) n)
+  where
+    by : (q : ℕ) → q * n + suc a % n ≡ suc a → q ≡ suc (a / n)
+    by zero h = absurd (omega (arith, e))
+    by (suc q) h = ap suc (sym (div-eq-of-lt-le n (omega (arith, e)) (omega (arith, e))))
+
+-- ---- without a remainder floor and ceiling are the quotient
+floor-whole : (z : ℤ) (n : ℕ) → 1 ≤ n → natAbs z % n ≡ 0 → pos n *ℤ floorDiv z n ≡ z
+unfolding floorDiv
+floor-whole (pos a) n l e = ap pos (omega (arith, div-add-mod a n, e))
+floor-whole (negsuc a) n l e =
+    let next = next-whole a n l e in
+    omega (signed, split-mul (pos n) (negsuc (a / n)), div-add-mod (suc a) n, e, ap (λ (q : ℕ). n * q) next)
+
+pub divides-is : DividesIs
+unfolding divides ceilDiv
+divides-is z n l t =
+    let e = eqb-true (natAbs z % n) 0 t in (
+      floor-whole z n l e,
+      mul-neg integers (pos n) (floorDiv (negℤ z) n)
+          ∙ ap negℤ (floor-whole (negℤ z) n l (rw (size-neg z) e))
+          ∙ negℤ-negℤ z,
+    )
+
+pub divides-multiple : DividesMultiple
+unfolding divides
+divides-multiple q z n e = rw (← e, size-mul (pos n) q) (eq-eqb (n * natAbs q % n) 0 (mul-mod-right n (natAbs q)))
 
 -- neither is larger in size than what is divided
 pub floor-size : (z : ℤ) (n : ℕ) → natAbs (floorDiv z n) ≤ natAbs z

@@ -1,4 +1,4 @@
--- What holds of the definitions, for the users of the crate, and the steps by which the code reaches them.
+-- What holds of the definitions, for the users of the crate, and how the code reaches them by machine division.
 pub mod Division
 pub mod Enclosed
-pub mod Steps
+pub mod Truncation

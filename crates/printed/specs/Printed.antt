@@ -2,35 +2,50 @@
 -- bytes (report/specs/Report): it is one refusal's line, or a table, and then every line of the table is true.
 use mathlib.Core.Path.{_≡_}
 use mathlib.Core.Logic.{_⊎_}
-use mathlib.Core.List.{List, [], _∷_, _++_, map}
+use mathlib.Core.List.{List, [], _∷_}
 use Prim.Native.Nat.{ℕ, _+_, _≤_}
 use lib.IntN.{ℤ, pos, _-ℤ_}
 use lib.Signed.{_≤ℤ_}
-use Rattle.algebra.specs.Fraction.{Fraction, whole, _≼_}
+use Rattle.algebra.specs.Fraction.{Fraction, whole, _≈_, _≼_}
+use Rattle.model.specs.Mark.{markOf}
 use Rattle.exact.specs.JobAmount.{Divisible, amount}
 use Rattle.rows.specs.Curve.{curveRows}
+use Rattle.rows.specs.Exact.{curveMarks}
 use Rattle.accuracy.specs.Accuracy.{Accepted, gap}
 use Rattle.text.specs.Bytes.{ascii}
-use Rattle.text.specs.Lines.{lineAt, IsLines, spaced}
-use Rattle.text.specs.Numbers.{decimal}
+use Rattle.text.specs.Lines.{lineAt, IsLines}
+use Rattle.table.specs.Lines.{yes, exactLetter, totalWords}
 use Rattle.grammar.specs.Sheet.{Sheet, sheetText}
 use Rattle.grammar.specs.Accepts.{Writable}
 use Rattle.report.specs.Report.{programRows, reportText, Refusal}
+
+-- no line with other numbers, or with the other letter, has the same text
+abbrev pub WordsTell : Type 0
+WordsTell = (x : ℕ) (l h b m l′ h′ b′ m′ : ℤ) → totalWords x l h b m ≡ totalWords x l′ h′ b′ m′
+    → (l ∷ h ∷ b ∷ [] ≡ l′ ∷ h′ ∷ b′ ∷ []) × (exactLetter m ≡ exactLetter m′)
 
 -- line x + 2 of a text, the heading being line 1: it says what the rule gives at total x, and that is true of the sheet's job
 pub record TrueLine (sheet : Sheet) (h : Divisible (sheet .job) (sheet .weights)) (text : List ℕ) (x : ℕ) : Type 0 where
   pub low : ℤ
   pub high : ℤ
   pub bound : ℤ
-  -- they are those of the paper's rule (`CurveRule` of rows/specs/Curve)
+  pub mark : ℤ
+  -- they are those of the paper's rule (`CurveRule` of rows/specs/Curve, `MarkRule` of rows/specs/Exact)
   pub rule : record { low = low; high = high; bound = bound } ≡ curveRows (sheet .job) (sheet .weights) 0 x
-  -- "one line for each total: total, low, high, bound"; no other numbers have this text (`LineTextTells` of text/specs/LineText)
-  pub printed : lineAt (x + 2) text ≡ decimal (pos x) ++ spaced (map decimal (low ∷ high ∷ bound ∷ []))
+  pub marked : mark ≡ markOf (curveMarks (sheet .job) (sheet .weights) 0 x)
+  -- "one line for each total: total, low, high, bound", and "Y or N"; no other line has this text (`WordsTell`)
+  pub printed : lineAt (x + 2) text ≡ totalWords x low high bound mark
   -- the exact amount lies from low to high, for every starting chance from the low start to the high start, whole or fraction
   pub encloses : (p : Fraction) → whole (pos (sheet .job .start .low)) ≼ p → p ≼ whole (pos (sheet .job .start .high))
       → (whole low ≼ amount (sheet .job) (sheet .weights) h p x) × (amount (sheet .job) (sheet .weights) h p x ≼ whole high)
   -- high minus low is at most the bound
   pub narrow : (high -ℤ low) ≤ℤ bound
+  -- where low equals high, it says Y
+  pub equal : low ≡ high → exactLetter mark ≡ yes
+  -- where it says Y, low and high are the amounts for the low and the high start; where it says N, they may be or not
+  pub exact : exactLetter mark ≡ yes
+      → (whole low ≈ amount (sheet .job) (sheet .weights) h (whole (pos (sheet .job .start .low))) x)
+      × (whole high ≈ amount (sheet .job) (sheet .weights) h (whole (pos (sheet .job .start .high))) x)
 
 -- the bytes are the text of a sheet whose job is accepted, and what the program writes on them is a heading and a true line for each total
 -- from 0 to X, each with its line end, and nothing more
@@ -40,7 +55,7 @@ pub record TrueTable (s : List ℕ) : Type 0 where
   pub bytes : s ≡ sheetText sheet
   pub accepts : Accepted (sheet .job) (sheet .weights) programRows
   pub divisible : Divisible (sheet .job) (sheet .weights)
-  pub heading : lineAt 1 (reportText s) ≡ ascii "TOTAL LOW HIGH BOUND"
+  pub heading : lineAt 1 (reportText s) ≡ ascii "TOTAL LOW HIGH BOUND EXACT"
   pub lines : (x : ℕ) → x ≤ sheet .job .last → TrueLine sheet divisible (reportText s) x
   pub count : IsLines (sheet .job .last + 2) (reportText s)
 

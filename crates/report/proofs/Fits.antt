@@ -9,7 +9,7 @@ use native.Mathlib.Omega.{arith}
 use borrow.Author.Tests.{ltb-true, ltb-false, lt-ltb, le-ltb}
 use lib.Dec.{ltb, eqb·suc-zero}
 use lib.IntN.{ℤ, pos}
-use lib.ListN.{length, take, length-append, length-replicate}
+use lib.ListN.{length, getD, take, length-append, length-replicate}
 use lib.Seq.{take-all, length-take-le}
 use Rattle.model.specs.declared.Job.{Job}
 use Rattle.model.specs.Answer.{Answer, accepted, refused, isAccepted}
@@ -17,7 +17,8 @@ use Rattle.model.specs.Limits.{mostSeverities, mostLast, mostTotals}
 use Rattle.model.proofs.Answer.{first-none, by-first}
 use Rattle.enclosure.specs.declared.Entry.{Entry}
 use Rattle.enclosure.specs.Term.{entryOf, Small}
-use Rattle.rows.specs.Layout.{lentRows, workPlaces}
+use Rattle.rows.specs.Layout.{workPlaces}
+use Rattle.compound.specs.Lent.{lentRows}
 use Rattle.compound.specs.Call.{tooShort, curveAnswer, curveLent}
 use Rattle.compound.proofs.Accepted.{limits, entry-small}
 use Rattle.text.specs.Lines.{spaced}
@@ -37,7 +38,7 @@ weights-fit s n e = let few = refusal-numbers mostSeverities s 27 n e .2 refl in
 -- ---- the totals
 -- rows for `most` totals are long enough for fewer
 long-enough : (places most : ℕ) → places ≤ most
-    → tooShort places (lentRows (zeros most) (zeros most) (zeros most) (zeros (workPlaces most))) ≡ false
+    → tooShort places (lentRows (zeros most) (zeros most) (zeros most) (zeros most) (zeros (workPlaces most))) ≡ false
 long-enough places most h = simp (length-replicate, le-ltb most places h, le-ltb (workPlaces most) (workPlaces places) (omega arith))
 
 -- so the answer is an acceptance or a refusal, but by 8
@@ -66,9 +67,10 @@ totals-fit job weights = answers job weights (λ a. ¬ (a .number ≡ 8)) (λ e.
 
 -- ---- the text
 -- a total has at most 3 digits; a number of a small entry has at most 10, and a sign
-total-short : (total : ℕ) (e : Entry) → total < mostTotals → Small e → length (totalLine total (e .low) (e .high) (e .bound)) ≤ 40
-unfolding lineText spaced decimal
-total-short total e few small = simp length-append (omega (
+total-short : (total : ℕ) (e : Entry) (mark : ℤ) → total < mostTotals → Small e
+    → length (totalLine total (e .low) (e .high) (e .bound) mark) ≤ 42
+unfolding spaced decimal
+total-short total e mark few small = simp length-append (omega (
   arith,
   digits-length 2 total (omega arith),
   decimal-length (e .low) (omega arith),
@@ -76,14 +78,14 @@ total-short total e few small = simp length-append (omega (
   decimal-length (e .bound) (omega arith),
 ))
 
-lines-short : (totals : ℕ) (low high bound : List ℤ) → totals ≤ mostTotals → ((x : ℕ) → x < totals → Small (entryOf low high bound x))
-    → length (totalLines totals low high bound) ≤ 40 * totals
+lines-short : (totals : ℕ) (low high bound mark : List ℤ) → totals ≤ mostTotals
+    → ((x : ℕ) → x < totals → Small (entryOf low high bound x)) → length (totalLines totals low high bound mark) ≤ 42 * totals
 unfolding totalLines
-lines-short zero low high bound few small = omega arith
-lines-short (suc x) low high bound few small = simp length-append (omega (
+lines-short zero low high bound mark few small = omega arith
+lines-short (suc x) low high bound mark few small = rw length-append (omega (
   arith,
-  lines-short x low high bound (omega arith) (λ y l. small y (omega arith)),
-  total-short x (entryOf low high bound x) few (small x (omega arith)),
+  lines-short x low high bound mark (omega arith) (λ y l. small y (omega arith)),
+  total-short x (entryOf low high bound x) (getD mark x (pos 0)) few (small x (omega arith)),
 ))
 
 refusal-short : (answer : Answer) → length (refusalLine answer) ≤ textBytes
@@ -98,7 +100,7 @@ module _ (job : Job) (weights : List ℕ) where
       let few : job .last + 1 ≤ mostTotals = omega (arith, limits job weights programRows ok .last-most) in
       simp length-append (omega (
         arith,
-        lines-short (job .last + 1) (rows .low) (rows .high) (rows .bound) few (entry-small job weights programRows ok),
+        lines-short (job .last + 1) (rows .low) (rows .high) (rows .bound) (rows .mark) few (entry-small job weights programRows ok),
       ))
 
   curve-short : length (curveText job weights) ≤ textBytes

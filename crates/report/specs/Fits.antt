@@ -19,7 +19,7 @@ TotalsFit = (job : Job) (weights : List ℕ) → ¬ (curveAnswer job weights pro
 
 -- the bytes of the output's buffer
 abbrev pub textBytes : ℕ
-textBytes = 20480
+textBytes = 21504
 
 abbrev pub TextFits : Type 0
 TextFits = (s : List ℕ) → length (reportText s) ≤ textBytes

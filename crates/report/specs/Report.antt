@@ -9,7 +9,8 @@ use lib.ListN.{replicate}
 use Rattle.model.specs.declared.Job.{Job}
 use Rattle.model.specs.Answer.{Answer, accepted, refused, isAccepted}
 use Rattle.model.specs.Limits.{mostSeverities, mostTotals}
-use Rattle.rows.specs.Layout.{Lent, lentRows, workPlaces}
+use Rattle.rows.specs.Layout.{workPlaces}
+use Rattle.compound.specs.Lent.{Lent, lentRows}
 use Rattle.compound.specs.Call.{curveAnswer, curveLent}
 use Rattle.table.specs.Lines.{tableText, refusalLine}
 use Rattle.grammar.specs.Sheet.{Sheet, sheetText}
@@ -21,12 +22,12 @@ abbrev pub zeros : ℕ → List ℤ
 zeros places = replicate places (pos 0)
 
 abbrev pub programRows : Lent
-programRows = lentRows (zeros mostTotals) (zeros mostTotals) (zeros mostTotals) (zeros (workPlaces mostTotals))
+programRows = lentRows (zeros mostTotals) (zeros mostTotals) (zeros mostTotals) (zeros mostTotals) (zeros (workPlaces mostTotals))
 
 -- ---- the text
 -- of the rows that the curve call leaves
 abbrev pub rowsText : Job → Lent → List ℕ
-rowsText job rows = tableText (job .last + 1) (rows .low) (rows .high) (rows .bound)
+rowsText job rows = tableText (job .last + 1) (rows .low) (rows .high) (rows .bound) (rows .mark)
 
 unfoldable pub curveText : Job → List ℕ → List ℕ
 curveText job weights = cond (isAccepted (curveAnswer job weights programRows))

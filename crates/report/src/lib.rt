@@ -15,8 +15,8 @@ ghost use Rattle.report.specs.Report.{curveText, reportText};
 // The places of the work row for the most totals.
 const WORK_PLACES: usize = WORK_COLUMNS * MOST_TOTALS;
 
-// Room for every text: a line of a table has at most 40 bytes.
-pub const TEXT_BYTES: usize = 20_480;
+// Room for every text: a line of a table has at most 42 bytes.
+pub const TEXT_BYTES: usize = 21_504;
 
 // The table of a job's curve, or the line that refuses the job.
 fn put_curve(out: &mut [u8], job: Job, weights: &[u64]) -> usize
@@ -25,11 +25,20 @@ fn put_curve(out: &mut [u8], job: Job, weights: &[u64]) -> usize
     let mut low = [0i64; MOST_TOTALS];
     let mut high = [0i64; MOST_TOTALS];
     let mut bound = [0i64; MOST_TOTALS];
+    let mut mark = [0i64; MOST_TOTALS];
     let mut work = [0i64; WORK_PLACES];
-    let answer = compound::curve(job, weights, &mut low, &mut high, &mut bound, &mut work);
+    let answer = compound::curve(
+        job,
+        weights,
+        &mut low,
+        &mut high,
+        &mut bound,
+        &mut mark,
+        &mut work,
+    );
     match answer {
         CurveAnswer::Accepted => {
-            table::put_table(out, job.last as usize + 1, &low, &high, &bound)
+            table::put_table(out, job.last as usize + 1, &low, &high, &bound, &mark)
         }
         CurveAnswer::Refused(reason, place) => {
             table::put_refusal(out, compound::reason_number(reason), place)

@@ -79,13 +79,13 @@ module _ (job : Job) (weights : List ℕ) (limits : Limits job weights) where
   unfolding firstFault
   first-is x h below at = smallest-is (faultAt order curve) places x h below at
 
-  first-most : firstFault job weights ≤ places
+  pub first-most : firstFault job weights ≤ places
   unfolding firstFault
   first-most = smallest-finds (faultAt order curve) places .0
 
   -- where the run stops at total x, which is the first that has a fault
   module _ (x : ℕ) (h : x < places) (below : FailBelow (faultAt order curve) x) (fault : faultAt order curve x ≡ true) where
-    first-here : firstFault job weights ≡ x
+    pub first-here : firstFault job weights ≡ x
     first-here = first-is x (omega arith) below (λ _. fault)
 
     pub stop-here : record { total = x; range = anyRow outOfRange order curve x } ≡ stopOf job weights
@@ -124,7 +124,7 @@ module _ (job : Job) (weights : List ℕ) (limits : Limits job weights) where
     }
 
     -- the rule makes the curve of the rows
-    rule-curve : (j : ℕ) → j < order → entryAt job weights (stored places lent) j x ≡ curve j x
+    pub rule-curve : (j : ℕ) → j < order → entryAt job weights (stored places lent) j x ≡ curve j x
     rule-curve j h = entry-local job weights (stored places lent) curve j x h (here .entries) ∙ sym (curve-rule job weights j x h)
 
     pub faults-curve : faultsBelow order (entryAt job weights (stored places lent)) x ≡ faultsBelow order curve x

@@ -13,13 +13,16 @@ use Rattle.rows.specs.Layout.{Lent, LongEnough}
 use Rattle.rows.specs.Progress.{Kept, RowsKept}
 
 -- ---- one row
+pub kept-same : {n : ℕ} {row : List ℤ} → Kept n row row
+kept-same = record { same-length = refl; later = refl }
+
 pub kept-set : (n : ℕ) (row row₀ : List ℤ) (i : ℕ) (v : ℤ) → i < n → Kept n row row₀ → Kept n (set row i v) row₀
 kept-set n row row₀ i v h k = record {
   same-length = length-set row i v ∙ k .same-length;
   later = drop-set-lt n row i v h ∙ k .later;
 }
 
-kept-further : (m n : ℕ) (row row₀ : List ℤ) → m ≤ n → Kept m row row₀ → Kept n row row₀
+pub kept-further : (m n : ℕ) (row row₀ : List ℤ) → m ≤ n → Kept m row row₀ → Kept n row row₀
 kept-further m n row row₀ h k = record {
   same-length = k .same-length;
   later = further row ∙ ap (drop (n - m)) (k .later) ∙ sym (further row₀);
@@ -31,7 +34,7 @@ kept-further m n row row₀ h k = record {
     further : (row : List ℤ) → drop n row ≡ drop (n - m) (drop m row)
     further row = ap (λ (i : ℕ). drop i row) apart ∙ sym (drop-drop (n - m) m row)
 
-kept-then : (n : ℕ) (row row₁ row₀ : List ℤ) → Kept n row row₁ → Kept n row₁ row₀ → Kept n row row₀
+pub kept-then : (n : ℕ) (row row₁ row₀ : List ℤ) → Kept n row row₁ → Kept n row₁ row₀ → Kept n row row₀
 kept-then n row row₁ row₀ p q = record { same-length = p .same-length ∙ q .same-length; later = p .later ∙ q .later }
 
 -- where n places are written, the later ones count
@@ -56,10 +59,7 @@ kept-listed f row row₀ n h k at =
 
 -- ---- the lent rows
 pub rows-untouched : (n places : ℕ) (lent : Lent) → RowsKept n places lent lent
-rows-untouched n places lent = record { low = same; high = same; bound = same; work = same }
-  where
-    same : {n : ℕ} {row : List ℤ} → Kept n row row
-    same = record { same-length = refl; later = refl }
+rows-untouched n places lent = record { low = kept-same; high = kept-same; bound = kept-same; work = kept-same }
 
 module _ (places : ℕ) (lent lent₀ : Lent) where
   pub rows-further : (m n : ℕ) → m ≤ n → RowsKept m places lent lent₀ → RowsKept n places lent lent₀

@@ -23,7 +23,7 @@ column-within places j n h k = omega (arith, NL.mul-le-mul-right places (nine j 
     nine j n h k = omega arith
 
 -- a place of a column
-column-cell : (work : List ℤ) (places j n z : ℕ) → z < places
+pub column-cell : (work : List ℤ) (places j n z : ℕ) → z < places
     → getD (take places (drop (columnAt places j n) work)) z (pos 0) ≡ getD work (columnAt places j n + z) (pos 0)
 column-cell work places j n z h =
     let at = columnAt places j n in
@@ -50,7 +50,7 @@ pub placed-further : (places : ℕ) (lent : Lent) (j x : ℕ) (e : Entry) → (j
 placed-further places lent j x e above = ap (λ (k : ℕ). placed places lent k x e) (sym (suc-pred j above))
 
 -- two cells of the work row that are not in one column at one total are two places
-cell-apart : (n a b z x : ℕ) → z < n → x < n → (a ≡ b → z ≡ x → ⊥) → a * n + z ≡ b * n + x → ⊥
+pub cell-apart : (n a b z x : ℕ) → z < n → x < n → (a ≡ b → z ≡ x → ⊥) → a * n + z ≡ b * n + x → ⊥
 cell-apart n a b z x hz hx apart e = by (decLt a b) (decLt b a)
   where
     same : (a < b → ⊥) → (b < a → ⊥) → a ≡ b

@@ -53,7 +53,7 @@ module _ (law : Law) (weights : List ℕ) (x : ℕ) where
   lawFactor = termFactor (law .a) (law .b) x
 
   -- which is the definition's
-  factor-is : (i y : ℕ) → lineFactor (lawFactor i) weights y ≡ factor law weights x i y
+  pub factor-is : (i y : ℕ) → lineFactor (lawFactor i) weights y ≡ factor law weights x i y
   unfolding factor
   factor-is i y =
       let a = getD (law .a) i (pos 0) *ℤ pos x in

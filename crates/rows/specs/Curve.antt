@@ -1,10 +1,10 @@
 -- "The curve, by the outward rule".
 use mathlib.Core.Path.{_≡_}
-use mathlib.Core.List.{List, [], _∷_, _++_}
+use mathlib.Core.List.{List}
 use Prim.Native.Nat.{ℕ, zero, suc, _-_, _<_, min}
 use lib.IntN.{ℤ, pos, _+ℤ_, _-ℤ_, _*ℤ_}
 use lib.ListN.{length, getD}
-use Rattle.algebra.specs.Slice.{listed}
+use Rattle.algebra.specs.Tabled.{Grid, tabled}
 use Rattle.model.specs.Weights.{allWeight, divisorZero}
 use Rattle.model.specs.declared.Law.{Law}
 use Rattle.model.specs.declared.Start.{Start}
@@ -14,11 +14,7 @@ use Rattle.enclosure.specs.Entry.{none, sumOf, scaled, rounded}
 
 -- rows of entries: row j at total z
 abbrev pub Rows : Type 0
-Rows = ℕ → ℕ → Entry
-
--- entries that are listed total by total, and at each total row by row
-abbrev pub recorded : List (List Entry) → Rows
-recorded totals j z = getD (getD totals z []) j none
+Rows = Grid Entry
 
 -- "y from 1 to the smaller of x and m"
 abbrev pub severities : List ℕ → ℕ → ℕ
@@ -63,18 +59,9 @@ module _ (job : Job) (weights : List ℕ) where
   entryAt rows j zero = firstEntry (job .start) j
   entryAt rows j (suc x) = rounded (divisorAt j (suc x)) (sumsAt (job .law) weights rows j (suc x))
 
-  -- the entries of the rows 0 to k - 1 at the totals 0 to n, from those at the totals 0 to n - 1
-  unfoldable pub withNext : List (List Entry) → ℕ → List (List Entry)
-  withNext totals n = totals ++ (listed (λ j. entryAt (recorded totals) j n) (job .law .order) ∷ [])
-
-  -- at the totals 0 to n - 1
-  unfoldable pub history : ℕ → List (List Entry)
-  history zero = []
-  history (suc n) = withNext (history n) n
-
-  -- the curve in row 0, and its further rows: row j at total x
+  -- the curve in row 0, and its further rows: row j at total x, for the rows 0 to k - 1
   unfoldable pub curveRows : Rows
-  curveRows j x = recorded (history (suc x)) j x
+  curveRows = tabled none (job .law .order) entryAt
 
   -- the rule as it stands in the paper: an entry is what the rule makes of the entries at earlier totals
   abbrev pub CurveRule : Type 0

@@ -1,23 +1,32 @@
 -- What the functions that fill the rows ask for, and how far the lent rows are filled.
 use mathlib.Core.Path.{_≡_}
+use mathlib.Core.Bool.{Bool, cond, _&&_}
 use mathlib.Core.List.{List}
 use Prim.Native.Nat.{ℕ, _+_, _≤_, _<_}
 use lib.IntN.{ℤ, pos, _*ℤ_}
 use lib.ListN.{length, getD, drop}
+use Rattle.algebra.specs.Sum.{allOf}
+use Rattle.algebra.specs.Table.{sameInteger}
+use Rattle.algebra.specs.Tabled.{Grid}
 use Rattle.model.specs.declared.Job.{Job}
 use Rattle.model.specs.declared.Law.{Law}
 use Rattle.model.specs.Limits.{mostLast, mostTotals}
 use Rattle.model.specs.Weights.{allWeight}
 use Rattle.model.specs.Job.{jobDivisor}
+use Rattle.model.specs.Mark.{markOf}
+use Rattle.enclosure.specs.declared.Entry.{Entry}
+use Rattle.enclosure.specs.declared.marks.Settled.{Settled}
 use Rattle.enclosure.specs.declared.term.Factor.{Factor}
 use Rattle.enclosure.specs.Entry.{outOfRange, boundTooLarge}
 use Rattle.enclosure.specs.Term.{Small}
+use Rattle.enclosure.specs.Known.{SettledRow}
 use Rattle.rows.specs.declared.fill.Faults.{Faults}
 use Rattle.rows.specs.declared.fill.Stop.{Stop}
 use Rattle.rows.specs.declared.total.Divisors.{Divisors}
 use Rattle.rows.specs.Curve.{Rows, entryAt, curveRows}
 use Rattle.rows.specs.Faults.{anyRow, firstFault, rangeFault}
-use Rattle.rows.specs.Layout.{Lent, workPlaces, stored, LongEnough}
+use Rattle.rows.specs.Exact.{Marks, exactAt, curveMarks}
+use Rattle.rows.specs.Layout.{Lent, workPlaces, stored, storedNumbers, storedMarks, LongEnough}
 use Rattle.rows.specs.Limits.{LawLimits, TableLimits}
 
 -- ---- the divisors
@@ -76,6 +85,49 @@ pub record Filled (job : Job) (weights : List ℕ) (lent₀ lent : Lent) : Type 
   pub kept : RowsKept (job .last + 1) (job .last + 1) lent lent₀
   pub entries : (j z : ℕ) → j < job .law .order → z < firstFault job weights
       → stored (job .last + 1) lent j z ≡ curveRows job weights j z
+
+-- ---- the marks, beside the entries
+-- what the functions ask for that read marks and ends at the totals below x
+pub record Readable (weights : List ℕ) (places x : ℕ) (low high mark work : List ℤ) : Type 0 where
+  pub table-limits : TableLimits weights
+  pub total-most : x ≤ mostLast
+  pub places-most : places ≤ mostTotals
+  pub total-below : x < places
+  pub low-long : places ≤ length low
+  pub high-long : places ≤ length high
+  pub mark-long : places ≤ length mark
+  pub work-long : workPlaces places ≤ length work
+
+-- the marks after those of the rows below n were put at total x, by the rule for the entries `rows` and the marks at the start
+pub record MarksAdvanced (job : Job) (weights : List ℕ) (places x n : ℕ) (rows : Rows) (mark₀ work₀ mark work : List ℤ) : Type 0 where
+  pub kept : Kept (x + 1) mark mark₀
+  pub earlier : (j z : ℕ) → j < job .law .order → z < x → storedNumbers places mark work j z ≡ storedNumbers places mark₀ work₀ j z
+  pub marks : (j : ℕ) → j < n → storedNumbers places mark work j x ≡ markOf (exactAt job weights rows (storedMarks places mark₀ work₀) j x)
+
+-- the marks after the run of the totals
+pub record MarksFilled (job : Job) (weights : List ℕ) (mark₀ mark work : List ℤ) : Type 0 where
+  pub kept : Kept (job .last + 1) mark mark₀
+  pub marks : (j z : ℕ) → j < job .law .order → z < firstFault job weights
+      → storedNumbers (job .last + 1) mark work j z ≡ markOf (curveMarks job weights j z)
+
+-- what is known of the rows 0 to k - 1 below total x, so that it is not looked at again
+pub record SettledRows (settled : Settled) (order x : ℕ) (low high : Grid ℤ) (marks : Marks) : Type 0 where
+  pub row : (j : ℕ) → j < order → SettledRow settled x (low j) (high j) (marks j)
+
+-- what was known, as far as an entry at total x lets it stand
+abbrev pub settledWhere : Settled → ℕ → (exact equal : Bool) → Settled
+settledWhere s x exact equal = record { exact = cond exact (s .exact) (x + 1); equal = cond equal (s .equal) (x + 1) }
+
+-- an exact entry with equal ends
+abbrev pub exactEqual : Bool → Entry → Bool
+exactEqual exact e = exact && sameInteger (e .low) (e .high)
+
+abbrev pub settledBy : Settled → ℕ → Bool → Entry → Settled
+settledBy s x exact e = settledWhere s x exact (exactEqual exact e)
+
+-- as far as those of the rows below n do
+abbrev pub settledAfter : ℕ → Settled → ℕ → Marks → Rows → Settled
+settledAfter n s x exact rows = settledWhere s x (allOf n (λ j. exact j x)) (allOf n (λ j. exactEqual (exact j x) (rows j x)))
 
 -- where the run stops
 abbrev pub stopOf : Job → List ℕ → Stop

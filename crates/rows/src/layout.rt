@@ -1,6 +1,9 @@
-// Where the rows lie: row 0 in the three lent rows, a further row in three columns of the work row.
+// Where the rows lie: row 0 in the lent rows, a further row in columns of the work row, three for its entries and one for its marks.
 
 use enclosure::Entry;
+use enclosure::marks::Settled;
+use enclosure::marks::are_exact;
+use enclosure::marks::mark_of;
 use enclosure::pass::add_term;
 use enclosure::term::Factor;
 ghost use mathlib.Core.Path.{_≡_};
@@ -8,13 +11,21 @@ ghost use Prim.Native.Nat.{_-_, _≤_, _<_};
 ghost use lib.ListN.{length, set};
 ghost use Rattle.model.specs.Limits.{mostTotals};
 ghost use Rattle.enclosure.specs.Term.{TermRoom, lineFactor, termSums};
+ghost use Rattle.enclosure.specs.Mark.{termExact};
+ghost use Rattle.enclosure.specs.Run.{FactorSmall};
+ghost use Rattle.enclosure.specs.Known.{SettledRow};
 ghost use Rattle.rows.specs.Layout.{lentRows, workPlaces, Reachable, columnAt, columnOf, stored, putColumns, placed};
+ghost use Rattle.rows.specs.Layout.{marksAt, marksOf, storedLows, storedHighs, storedMarks, markPut, workPut};
+ghost use Rattle.rows.specs.Progress.{Readable};
 
 // Low, high and bound.
 const COLUMNS: usize = 3;
 
-// The columns of the work row: those of the rows 1 to 3.
-pub const WORK_COLUMNS: usize = 9;
+// The columns of the work row that hold the entries of the rows 1 to 3.
+const ENTRY_COLUMNS: usize = 9;
+
+// All its columns: behind those are the marks of these rows.
+pub const WORK_COLUMNS: usize = 12;
 
 // Where a column of a further row begins, by its number: low 0, high 1, bound 2.
 fn column_at(places: usize, row: usize, number: usize) -> usize
@@ -118,4 +129,74 @@ pub fn put(
         return;
     }
     put_further(work, places, row, x, entry);
+}
+
+// Where the marks of a further row begin.
+fn marks_at(places: usize, row: usize) -> usize
+    requires { ⌜ (1 ≤ row) × (row ≤ 3) × (places ≤ mostTotals) ⌝ }
+    ensures { λ r. ⌜ r ≡ marksAt places (row - 1) ⌝ }
+{
+    (ENTRY_COLUMNS + (row - 1)) * places
+}
+
+// The marks of row `row`. Those of row 0 are a lent row, `mark`.
+fn marks<'rows>(mark: &'rows [i64], work: &'rows [i64], places: usize, row: usize) -> &'rows [i64]
+    requires { ⌜ (row ≤ 3) × (places ≤ mostTotals) × (workPlaces places ≤ length (now work)) ⌝ }
+    ensures { λ r. ⌜ now r ≡ marksOf places row (now (mark .entry)) (now (work .entry)) ⌝ }
+{
+    if row == 0 {
+        return mark;
+    }
+    let at = marks_at(places, row);
+    let end = at + places;
+    &work[at..end]
+}
+
+// Whether all entries of row `row` leave a sum exact that one term uses.
+pub fn is_row_exact<'rows>(
+    factor: Factor,
+    settled: Settled,
+    x: usize,
+    weights: &[u64],
+    low: &'rows [i64],
+    high: &'rows [i64],
+    mark: &'rows [i64],
+    work: &'rows [i64],
+    places: usize,
+    row: usize,
+) -> bool
+    requires { ⌜ Readable (now weights) places x (now low) (now high) (now mark) (now work) ⌝ }
+    requires { ⌜ (row ≤ 3) × FactorSmall factor ⌝ }
+    requires { ⌜ SettledRow settled x (storedLows places (now low) (now work) row) (storedHighs places (now high) (now work) row)
+        (storedMarks places (now mark) (now work) row) ⌝ }
+    ensures { λ r. ⌜ r ≡ termExact (lineFactor factor (now (weights .entry))) x (now (weights .entry))
+        (storedLows places (now (low .entry)) (now (work .entry)) row) (storedHighs places (now (high .entry)) (now (work .entry)) row)
+        (storedMarks places (now (mark .entry)) (now (work .entry)) row) ⌝ }
+{
+    let lows = column(low, work, places, row, 0);
+    let highs = column(high, work, places, row, 1);
+    let exact = marks(mark, work, places, row);
+    are_exact(factor, settled, x, weights, lows, highs, exact)
+}
+
+// A mark put at total `x` of row `row`.
+pub fn put_mark(
+    mark: &mut [i64],
+    work: &mut [i64],
+    places: usize,
+    row: usize,
+    x: usize,
+    exact: bool,
+)
+    requires { ⌜ (row ≤ 3) × (places ≤ mostTotals) × (x < places) × (places ≤ length (now mark)) × (workPlaces places ≤ length (now work)) ⌝ }
+    ensures mark { λ r. ⌜ now (mark .exit) ≡ markPut (now (mark .entry)) row x exact ⌝ }
+    ensures work { λ r. ⌜ now (work .exit) ≡ workPut places (now (work .entry)) row x exact ⌝ }
+{
+    let number = mark_of(exact);
+    if row == 0 {
+        mark[x] = number;
+        return;
+    }
+    let at = marks_at(places, row) + x;
+    work[at] = number;
 }

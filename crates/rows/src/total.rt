@@ -1,6 +1,7 @@
 // The entries of one total, from the rows at earlier totals.
 
 use super::layout::add_row;
+use enclosure::Divided;
 use enclosure::Entry;
 use enclosure::rule::divide_sums;
 use enclosure::rule::none;
@@ -14,9 +15,10 @@ ghost use lib.IntN.{pos, natAbs};
 ghost use lib.ListN.{getD};
 ghost use Rattle.model.specs.Limits.{unit, mostOrder, mostLast};
 ghost use Rattle.rows.specs.Curve.{firstEntry, sumsZero, entryAt};
+ghost use Rattle.rows.specs.Exact.{dividesAt};
 ghost use Rattle.rows.specs.Layout.{lentRows, stored};
 ghost use Rattle.rows.specs.Limits.{Limits};
-ghost use Rattle.rows.specs.Progress.{divisorsOf, termFactor, Ready};
+ghost use Rattle.rows.specs.Progress.{divisorsOf, termFactor, weightAlone, Ready};
 
 // The divisors of a job: that of row 0 at total 1, D W - A w(0), and that of the further rows, W.
 pub struct Divisors {
@@ -24,8 +26,18 @@ pub struct Divisors {
     pub further: u64,
 }
 
+// The factor of a further row: w(y) alone.
+pub fn weight_alone() -> Factor
+    ensures { λ r. ⌜ r ≡ weightAlone ⌝ }
+{
+    Factor {
+        constant: 1,
+        slope: 0,
+    }
+}
+
 // The factor of term `i` + 1: A x + B y, times w(y).
-fn term_factor(a: &[i64; 4], b: &[i64; 4], x: usize, i: usize) -> Factor
+pub fn term_factor(a: &[i64; 4], b: &[i64; 4], x: usize, i: usize) -> Factor
     requires { ⌜ (i < mostOrder) × (x ≤ mostLast) × (natAbs (getD (now a) i (pos 0)) ≤ 1000) ⌝ }
     ensures { λ r. ⌜ r ≡ termFactor (now (a .entry)) (now (b .entry)) x i ⌝ }
 {
@@ -88,7 +100,7 @@ fn first_entry(start: Start, row: usize) -> Entry
     none()
 }
 
-// The entry of row `row` at total `x`.
+// The entry of row `row` at total `x`, and whether its sums were divided without remainder.
 pub fn entry_at<'rows>(
     job: Job,
     a: &[i64; 4],
@@ -102,27 +114,26 @@ pub fn entry_at<'rows>(
     work: &'rows [i64],
     places: usize,
     row: usize,
-) -> Entry
+) -> Divided
     requires { ⌜ (row < job .law .order) × (divisors ≡ divisorsOf job (now weights)) × Limits job (now weights) ⌝ }
     requires { ⌜ Ready (job .law) (now weights) places x (lentRows (now low) (now high) (now bound) (now work)) ⌝ }
     requires { ⌜ (now a ≡ job .law .a) × (now b ≡ job .law .b) ⌝ }
-    ensures { λ r. ⌜ r ≡ entryAt job (now (weights .entry)) (stored places
+    ensures entry { λ r. ⌜ r .entry ≡ entryAt job (now (weights .entry)) (stored places
+        (lentRows (now (low .entry)) (now (high .entry)) (now (bound .entry)) (now (work .entry)))) row x ⌝ }
+    ensures exact { λ r. ⌜ r .exact ≡ dividesAt job (now (weights .entry)) (stored places
         (lentRows (now (low .entry)) (now (high .entry)) (now (bound .entry)) (now (work .entry)))) row x ⌝ }
 {
     if x == 0 {
-        return first_entry(job.start, row);
+        let entry = first_entry(job.start, row);
+        return Divided { entry, exact: true };
     }
     if row == 0 {
         let sums = sums_zero(job.law, a, b, x, weights, low, high, bound, work, places);
         return divide_sums(sums, divisor_zero(divisors.first, x));
     }
-    let weight = Factor {
-        constant: 1,
-        slope: 0,
-    };
     let sums = add_row(
         none(),
-        weight,
+        weight_alone(),
         x,
         weights,
         low,

@@ -28,11 +28,12 @@ pub fn times(factor: Factor, ends: Interval) -> Interval
     requires { ⌜ Proper factor × InUnit ends ⌝ }
     ensures { λ r. ⌜ r ≡ times factor ends ⌝ }
 {
-    outward::divide(
+    let quotient = outward::divide(
         ends.low * factor.low as i64,
         ends.high * factor.high as i64,
         factor.divisor,
-    )
+    );
+    quotient.ends
 }
 
 // The interval times the factor, `count` times.

@@ -23,7 +23,3 @@ LineTextFirst = (word : List ℕ) (numbers : List ℤ) (rest : List ℕ) → has
     → (has lineEnd (lineText word numbers ++ rest) ≡ true)
     × (before lineEnd (lineText word numbers ++ rest) ≡ word ++ spaced (map decimal numbers))
     × (after lineEnd (lineText word numbers ++ rest) ≡ rest)
-
--- and no other numbers have its text
-abbrev pub LineTextTells : Type 0
-LineTextTells = (word : List ℕ) (ys zs : List ℤ) → word ++ spaced (map decimal ys) ≡ word ++ spaced (map decimal zs) → ys ≡ zs

@@ -9,10 +9,10 @@ use native.Mathlib.Omega.{arith}
 use Rattle.model.specs.declared.Job.{Job}
 use Rattle.model.specs.Answer.{accepted, refused, isAccepted, firstOf}
 use Rattle.rows.specs.declared.fill.Stop.{Stop}
-use Rattle.rows.specs.Layout.{Lent, lentRows, LongEnough}
 use Rattle.rows.specs.Limits.{Limits}
-use Rattle.rows.specs.Progress.{Filled}
+use Rattle.rows.specs.Progress.{Filled, MarksFilled}
 use Rattle.rows.proofs.Kept.{long-kept}
+use Rattle.compound.specs.Lent.{Lent, lentRows, entriesOf, LongEnough}
 use Rattle.compound.specs.Call.{paper, checks}
 use Rattle.compound.proofs.Call.{checked-limits}
 use Rattle.compound.proofs.Returned.{accepted-paper, early-answer, early-rows, fault-answer, fault-rows, end-answer, end-rows}
@@ -28,13 +28,13 @@ module _ (c : tie.Start) where
   weights = c .args .weights .now
 
   abbrev lent₀ : Lent
-  lent₀ = lentRows (c .args .low .now) (c .args .high .now) (c .args .bound .now) (c .args .work .now)
+  lent₀ = lentRows (c .args .low .now) (c .args .high .now) (c .args .bound .now) (c .args .mark .now) (c .args .work .now)
 
 -- ---- refused by the checks
 returns : tie.Need-returns
 returns c =
     let call = c .before .before in
-    let s = call .before .before .before .before .before .before in
+    let s = call .before .before .before .before .before .before .before in
     let refuses = not-true _ (sym (c .before .is-refused .ensures) ∙ c .if1 .taken) in (
       early-answer (job s) (weights s) (lent₀ s) (paper (call .check .result .answer)) (call .check .ensures .0) refuses,
       early-rows (job s) (weights s) (lent₀ s) (paper (call .check .result .answer)) (call .check .ensures .0) refuses,
@@ -43,7 +43,7 @@ returns c =
 -- ---- past the checks
 module _ (c : tie.Else1) where
   abbrev start : tie.Start
-  start = c .before .before .before .before .before .before .before .before
+  start = c .before .before .before .before .before .before .before .before .before
 
   accepts : isAccepted (paper (c .before .before .check .result .answer)) ≡ true
   accepts = not-false _ (sym (c .before .is-refused .ensures) ∙ c .if1 .left)
@@ -62,50 +62,60 @@ add-places c = record { fits = omega (arith, limits c .last-most) }
 
 fill-requires : tie.Need-fill-requires
 fill-requires c κs =
-    let e = c .before .before .before .before in
-    ((e .before .before .check .ensures .1 (accepts e), limits e), long e)
+    let e = c .before .before .before .before .before in
+    ((e .before .before .check .ensures .1 (accepts e), limits e, long e .mark-long), long e .entries)
 
 -- after the totals
 module _ (c : tie.After-fill) where
   abbrev else : tie.Else1
-  else = c .before .before .before .before .before
+  else = c .before .before .before .before .before .before
 
   abbrev lent : Lent
   lent =
       let rows = c .fill .last .1 .1 .1 in
-      lentRows (rows .0) (rows .1 .0) (rows .1 .1 .0) (rows .1 .1 .1 .0)
+      lentRows (rows .0) (rows .1 .0) (rows .1 .1 .0) (rows .1 .1 .1 .0) (rows .1 .1 .1 .1 .0)
 
-  filled : Filled (job (start else)) (weights (start else)) (lent₀ (start else)) lent
-  filled = c .fill .ensures .1
+  filled : Filled (job (start else)) (weights (start else)) (entriesOf (lent₀ (start else))) (entriesOf lent)
+  filled = c .fill .ensures .1 .0
+
+  marked : MarksFilled (job (start else)) (weights (start else)) (lent₀ (start else) .mark) (lent .mark) (lent .work)
+  marked = c .fill .ensures .1 .1
 
   still-long : LongEnough (job (start else) .last + 1) lent
-  still-long = long-kept _ lent (lent₀ (start else)) _ (filled .kept) (long else)
+  still-long = record {
+    entries = long-kept _ (entriesOf lent) (entriesOf (lent₀ (start else))) _ (filled .kept) (long else .entries);
+    mark-long = rw (marked .kept .same-length) (long else .mark-long);
+  }
 
 mul-clear : tie.Need-mul-clear
-mul-clear c = let f = c .before .before .before .before .before in record { fits = omega (arith, limits (else f) .last-most) }
+mul-clear c = let f = c .before .before .before .before .before .before in record { fits = omega (arith, limits (else f) .last-most) }
 
 clear-requires : tie.Need-clear-requires
 clear-requires c κs =
-    let f = c .before .before .before .before .before in
-    omega (arith, still-long f .work-long)
+    let f = c .before .before .before .before .before .before in
+    omega (arith, still-long f .entries .work-long)
 
 -- the work row cleared
 abbrev fill-of : tie.After-struct-known → tie.After-fill
-fill-of c = c .before .before .before .before .before .before .before .before
+fill-of c = c .before .before .before .before .before .before .before .before .before
 
 clear-requires-2 : tie.Need-clear-requires-2
-clear-requires-2 c κs = still-long (fill-of (c .before .before)) .low-long
+clear-requires-2 c κs = still-long (fill-of (c .before .before)) .entries .low-long
 
 clear-requires-3 : tie.Need-clear-requires-3
-clear-requires-3 c κs = still-long (fill-of (c .before .before .before .before .before)) .high-long
+clear-requires-3 c κs = still-long (fill-of (c .before .before .before .before .before)) .entries .high-long
 
 clear-requires-4 : tie.Need-clear-requires-4
-clear-requires-4 c κs = still-long (fill-of (c .before .before .before .before .before .before .before .before)) .bound-long
+clear-requires-4 c κs = still-long (fill-of (c .before .before .before .before .before .before .before .before)) .entries .bound-long
+
+clear-requires-5 : tie.Need-clear-requires-5
+clear-requires-5 c κs = still-long (fill-of (c .before .before .before .before .before .before .before .before .before .before .before)) .mark-long
 
 -- ---- refused at a total
 returns-2 : tie.Need-returns-2
 returns-2 c =
-    let bound = c .before .before in
+    let mark = c .before .before in
+    let bound = mark .before .before .before in
     let high = bound .before .before .before in
     let low = high .before .before .before in
     let then = low .before .before in
@@ -115,9 +125,9 @@ returns-2 c =
     let here = rw stop at (then .if2 .taken) in (
       c .refused-at .ensures ∙ ap (λ (r : Stop). refused (cond (r .range) 9 10) (r .total)) stop
           ∙ fault-answer (job s) (weights s) (lent₀ s) (passed (else call)) here,
-      fault-rows (job s) (weights s) (lent₀ s) (passed (else call)) (lent call) (filled call) _
-          (then .before .before .before .clear .ensures) here _ _ _
-          (low .clear2 .ensures) (high .clear3 .ensures) (bound .clear4 .ensures),
+      fault-rows (job s) (weights s) (lent₀ s) (passed (else call)) (lent call) (filled call) (marked call) _
+          (then .before .before .before .clear .ensures) here _ _ _ _
+          (low .clear2 .ensures) (high .clear3 .ensures) (bound .clear4 .ensures) (mark .clear5 .ensures),
     )
 
 -- ---- accepted
@@ -128,7 +138,7 @@ returns-3 c =
     let all = rw (call .fill .ensures .0) at (c .if2 .left) in (
       accepted-paper (else call .before .before .check .result .answer) (accepts (else call))
           ∙ end-answer (job s) (weights s) (lent₀ s) (passed (else call)) all,
-      end-rows (job s) (weights s) (lent₀ s) (passed (else call)) (lent call) (filled call) _
+      end-rows (job s) (weights s) (lent₀ s) (passed (else call)) (lent call) (filled call) (marked call) _
           (c .before .before .before .clear .ensures) (long (else call)) (limits (else call) .law .order-least) all,
     )
 
@@ -142,6 +152,7 @@ curve-spec =
     (λ c. search needs)
     (λ c. search needs)
     (λ c. search needs)
+    (λ c. search needs)
     returns
     add-places
     fill-requires
@@ -150,12 +161,15 @@ curve-spec =
     clear-requires-2
     clear-requires-3
     clear-requires-4
+    clear-requires-5
     (λ c κs. search needs)
     (λ c. search needs)
     (λ c. search needs)
     (λ c. search needs)
     (λ c. search needs)
+    (λ c. search needs)
     returns-2
+    (λ c. search needs)
     (λ c. search needs)
     (λ c. search needs)
     (λ c. search needs)

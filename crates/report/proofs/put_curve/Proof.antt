@@ -9,7 +9,7 @@ use lib.Dec.{eqb}
 use Rattle.model.specs.declared.Job.{Job}
 use Rattle.model.specs.Answer.{accepted, refused}
 use Rattle.model.specs.Limits.{mostLast}
-use Rattle.rows.specs.Layout.{Lent}
+use Rattle.compound.specs.Lent.{Lent}
 use Rattle.compound.specs.declared.CurveAnswer.{CurveAnswer}
 use Rattle.compound.specs.Call.{numberOf, paper, curveAnswer, curveLent}
 use Rattle.compound.proofs.Returned.{reason-refuses}
@@ -31,17 +31,17 @@ refused-text job weights number place n e = rw (sym e, n)
 
 module _ (c : tie.After-curve) where
   abbrev job : Job
-  job = c .before .before .before .before .before .before .before .args .job
+  job = c .before .before .before .before .before .before .before .before .args .job
 
   abbrev weights : List ℕ
-  weights = c .before .before .before .before .before .before .before .args .weights .now
+  weights = c .before .before .before .before .before .before .before .before .args .weights .now
 
   answered : (answer : CurveAnswer) → c .curve .result ≡ answer → paper answer ≡ curveAnswer job weights programRows
   answered answer e = ap paper (sym e) ∙ c .curve .ensures .0
 
 module _ (c : tie.After-enum-told) where
   abbrev call : tie.After-curve
-  call = c .before .before .before .before .before .before
+  call = c .before .before .before .before .before .before .before
 
   accepting : accepted ≡ curveAnswer (job call) (weights call) programRows
   accepting = answered call _ (c .enum-told .given .1)
@@ -52,7 +52,7 @@ module _ (c : tie.After-enum-told) where
 returns : tie.Need-returns
 returns c =
     let table = c .before .before in
-    let told = table .before .before .before .before .before in
+    let told = table .before .before .before .before .before .before in
     rw (accepted-text (job (call told)) (weights (call told)) _ (accepting told) (call told .curve .ensures .1)) (table .put-table .ensures)
 
 returns-2 : tie.Need-returns-2
@@ -60,7 +60,7 @@ returns-2 c =
     let line = c .before .before in
     let number = line .before in
     let answer = number .before .before .before in
-    let call = answer .before .before .before .before .before .before in
+    let call = answer .before .before .before .before .before .before .before in
     let reason = answer .answer .given .0 .0 in
     rw (refused-text (job call) (weights call) (numberOf reason) _ (reason-refuses reason) (answered call _ (answer .answer .given .1)))
     (rw (number .reason-number .ensures) at (line .put-refusal .ensures))
@@ -73,13 +73,15 @@ put-curve-spec =
     (λ c. search needs)
     (λ c. search needs)
     (λ c. search needs)
+    (λ c. search needs)
     (λ c κs. search needs)
     (λ c. search needs)
     (λ c. let h = few (c .before) in search needs)
     (λ c. search needs)
     (λ c. search needs)
     (λ c. search needs)
-    (λ c κs. let h = few (c .before .before .before .before) in search needs)
+    (λ c. search needs)
+    (λ c κs. let h = few (c .before .before .before .before .before) in search needs)
     (λ c. search needs)
     (λ c κs. search needs)
     (λ c κs. search needs)

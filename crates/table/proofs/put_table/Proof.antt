@@ -14,29 +14,31 @@ use Rattle.table.proofs.put_table.Statement.{statement}
 use Rattle.table.proofs.put_table.Tie as tie
 
 abbrev Inv-loop : tie.InvT-loop
-Inv-loop out₀ totals low high bound at₀ total₀ out at total =
-    Puts (totalLines total low high bound) (output out₀ at₀) (output out at)
+Inv-loop out₀ totals low high bound mark at₀ total₀ out at total =
+    Puts (totalLines total low high bound mark) (output out₀ at₀) (output out at)
     × (total ≤ totals) × (length out ≡ length out₀) × (totals ≤ length low) × (totals ≤ length high) × (totals ≤ length bound)
+    × (totals ≤ length mark)
 
 abbrev μ-loop : tie.MeasureT-loop
-μ-loop out₀ totals low high bound at₀ total₀ out at total = totals - total
+μ-loop out₀ totals low high bound mark at₀ total₀ out at total = totals - total
 
 loop-holds : tie.Need-loop-holds Inv-loop μ-loop
 unfolding totalLines
-loop-holds c = (nothing, search needs, search needs, search needs, search needs, search needs)
+loop-holds c = (nothing, search needs, search needs, search needs, search needs, search needs, search needs)
 
 loop-again : tie.Need-loop-again Inv-loop μ-loop
 unfolding totalLines
 loop-again c =
     let line = c .before .before in
-    let turn = line .before .before .before .before .before .before in
+    let turn = line .before .before .before .before .before .before .before in
     let shown = rw (
-      held w64 (line .before .before .before .put-total-arg2 .given) refl,
-      held w64 (line .before .before .put-total-arg3 .given) refl,
-      held w64 (line .before .put-total-arg4 .given) refl,
+      held w64 (line .before .before .before .before .put-total-arg2 .given) refl,
+      held w64 (line .before .before .before .put-total-arg3 .given) refl,
+      held w64 (line .before .before .put-total-arg4 .given) refl,
+      held w64 (line .before .put-total-arg5 .given) refl,
     )
     at (line .put-total .ensures) in
-    (rw add-one (turn .loop .inv .0 then shown), search needs, search needs, search needs, search needs, search needs)
+    (rw add-one (turn .loop .inv .0 then shown), search needs, search needs, search needs, search needs, search needs, search needs)
 
 returns : tie.Need-returns Inv-loop μ-loop
 returns c =
@@ -53,6 +55,8 @@ put-table-spec =
     (λ c. search needs)
     (λ c κs. search needs)
     loop-holds
+    (λ c. search needs)
+    (λ c. search needs)
     (λ c. search needs)
     (λ c. search needs)
     (λ c. search needs)

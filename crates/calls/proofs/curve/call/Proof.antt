@@ -17,10 +17,14 @@ slice-aggregate-curve-3 c = sym (length-take-le _ _ (search needs))
 slice-aggregate-curve-4 : tie.Need-slice-aggregate-curve-4
 slice-aggregate-curve-4 c = sym (length-take-le _ _ (search needs))
 
+slice-aggregate-curve-5 : tie.Need-slice-aggregate-curve-5
+slice-aggregate-curve-5 c = sym (length-take-le _ _ (search needs))
+
 pub call-spec : {M : Type 1} → statement M
 call-spec =
     tie.close
     (tie.spec
+    (λ c κs. search needs)
     (λ c κs. search needs)
     (λ c κs. search needs)
     (λ c κs. search needs)
@@ -33,8 +37,11 @@ call-spec =
     slice-aggregate-curve-3
     (λ c. search needs)
     slice-aggregate-curve-4
+    (λ c. search needs)
+    slice-aggregate-curve-5
     (λ c κs. search needs)
     (λ c κs. search needs)
+    (λ c. search needs)
     (λ c. search needs)
     (λ c. search needs)
     (λ c. search needs)

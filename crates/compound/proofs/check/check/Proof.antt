@@ -37,6 +37,7 @@ conditions c = checks (c .args .job) (c .args .weights .now) (record {
   low = c .args .low .now;
   high = c .args .high .now;
   bound = c .args .bound .now;
+  mark = c .args .mark .now;
   work = c .args .work .now;
 })
 

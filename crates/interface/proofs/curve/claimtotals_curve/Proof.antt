@@ -5,7 +5,7 @@ use Rattle.interface.proofs.curve.claimtotals_curve.Tie as tie
 
 returns : tie.Need-returns
 returns c =
-    let called = c .before .before .before .before .before .before .curve in (
+    let called = c .before .before .before .before .before .before .before .curve in (
       rw (c .number-of .ensures, c .before .place-of .ensures) (called .ensures .0),
       called .ensures .1,
     )
@@ -17,6 +17,7 @@ claimtotals-curve-spec =
     (λ c κs. search needs)
     (λ c κs. search needs)
     (λ c κs. search needs)
+    (λ c. search needs)
     (λ c. search needs)
     (λ c. search needs)
     (λ c. search needs)

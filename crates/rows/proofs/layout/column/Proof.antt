@@ -18,7 +18,7 @@ module _ (c : tie.After-column-at) where
   abbrev places : ℕ
   places = start .args .places
 
-  within : c .column-at .result + places ≤ 9 * places
+  within : c .column-at .result + places ≤ 12 * places
   within = omega (
     arith,
     c .column-at .ensures,

@@ -12,7 +12,7 @@ use Rattle.rows.proofs.layout.put_further.Tie as tie
 module _ (s : tie.Start) where
   -- total x of column n, by where the column begins
   abbrev Inside : ℕ → Type 0
-  Inside at = (at + s .args .x < 4509) × (at + s .args .x < length (s .args .work .now))
+  Inside at = (at + s .args .x < 6012) × (at + s .args .x < length (s .args .work .now))
 
   inside : (at n : ℕ) → n ≤ 2 → at ≡ columnAt (s .args .places) (s .args .row - 1) n → Inside at
   inside at n h e =

@@ -13,12 +13,12 @@ use Rattle.model.specs.Weights.{allWeight, divisorZero}
 use Rattle.model.specs.Job.{jobDivisor}
 use Rattle.model.specs.declared.Job.{Job}
 use Rattle.model.proofs.Weights.{thinned-most}
-use Rattle.enclosure.specs.Entry.{rounded}
+use Rattle.enclosure.specs.Entry.{rounded, dividesSums}
 use Rattle.rows.specs.declared.total.Divisors.{Divisors}
 use Rattle.rows.specs.Curve.{sumsNext}
 use Rattle.rows.specs.Layout.{lentRows, stored}
 use Rattle.rows.specs.Limits.{Limits}
-use Rattle.rows.proofs.Recursion.{suc-pred, entry-first, entry-later}
+use Rattle.rows.proofs.Recursion.{suc-pred, entry-first, entry-later, divides-first, divides-later}
 use Rattle.rows.proofs.Sums.{next-is, reachable, next-room, bound-fits}
 use Rattle.rows.proofs.total.entry_at.Statement.{statement}
 use Rattle.rows.proofs.total.entry_at.Tie as tie
@@ -27,8 +27,10 @@ use Rattle.rows.proofs.total.entry_at.Tie as tie
 returns : tie.Need-returns
 returns c =
     let t = c .before in
-    let a = t .before .before .args in
-    c .first-entry .ensures ∙ sym (entry-first (a .job) (a .weights .now) _ (a .row) (a .x) (t .if1 .taken))
+    let a = t .before .before .args in (
+      c .first-entry .ensures ∙ sym (entry-first (a .job) (a .weights .now) _ (a .row) (a .x) (t .if1 .taken)),
+      sym (divides-first (a .job) (a .weights .now) _ (a .row) (a .x) (t .if1 .taken)),
+    )
 
 -- row 0
 first-most : (job : Job) (weights : List ℕ) → Limits job weights → jobDivisor job weights ≤ 2000000
@@ -63,10 +65,13 @@ returns-2 c =
     let t = d .before .before in
     let s = t .before .before .before in
     let a = s .args in
-    c .divide-sums .ensures
-    ∙ ap₂ rounded (d .divisor-zero .ensures .0 ∙ ap (λ (r : Divisors). r .first * a .x) (s .pre .0 .1))
-    (d .before .sums-zero .ensures)
-    ∙ sym (entry-later (a .job) (a .weights .now) _ (a .row) (a .x) (t .before .if1 .left) 0 (t .if2 .taken))
+    let divisor = d .divisor-zero .ensures .0 ∙ ap (λ (r : Divisors). r .first * a .x) (s .pre .0 .1) in
+    let sums = d .before .sums-zero .ensures in (
+      c .divide-sums .ensures .0 ∙ ap₂ rounded divisor sums
+          ∙ sym (entry-later (a .job) (a .weights .now) _ (a .row) (a .x) (t .before .if1 .left) 0 (t .if2 .taken)),
+      c .divide-sums .ensures .1 ∙ ap₂ dividesSums divisor sums
+          ∙ sym (divides-later (a .job) (a .weights .now) _ (a .row) (a .x) (t .before .if1 .left) 0 (t .if2 .taken)),
+    )
 
 -- a further row, from the row before it
 before-below : (c : tie.Else2) → c .before .before .before .args .row - 1 < c .before .before .before .args .job .law .order
@@ -74,25 +79,28 @@ before-below c = omega (arith, c .before .before .before .pre .0 .0)
 
 add-row-requires : tie.Need-add-row-requires
 add-row-requires c κs =
-    let ready = c .before .before .before .before .pre .1 .0 in
-    let before = before-below (c .before) in
-    (reachable _ _ _ _ _ ready _ before, rw (c .none .ensures) (next-room _ _ _ _ (ready .basis) _ before))
+    let ready = c .before .before .before .before .before .pre .1 .0 in
+    let before = before-below (c .before .before) in (
+      reachable _ _ _ _ _ ready _ before,
+      rw (c .before .none .ensures, c .weight-alone .ensures) (next-room _ _ _ _ (ready .basis) _ before),
+    )
 
 -- its sums are those of the definition
-sums-are : (c : tie.After-add-row) → let a = c .before .before .before .before .before .args in
+sums-are : (c : tie.After-add-row) → let a = c .before .before .before .before .before .before .args in
     let lent = lentRows (a .low .now) (a .high .now) (a .bound .now) (a .work .now) in
     c .add-row .result ≡ sumsNext (a .weights .now) (stored (a .places) lent) (a .row - 1) (a .x)
 sums-are c =
-    let a = c .before .before .before .before .before .args in
-    rw (c .before .none .ensures) at (c .add-row .ensures) ∙ next-is (a .weights .now) (a .x) _ (a .row - 1)
+    let a = c .before .before .before .before .before .before .args in
+    rw (c .before .before .none .ensures, c .before .weight-alone .ensures) at (c .add-row .ensures)
+    ∙ next-is (a .weights .now) (a .x) _ (a .row - 1)
 
 divide-sums-requires-2 : tie.Need-divide-sums-requires-2
 divide-sums-requires-2 c κs =
-    let s = c .before .before .before .before .before in
+    let s = c .before .before .before .before .before .before in
     let a = s .args in
     let basis = s .pre .1 .0 .basis in
     let table = basis .table-limits in
-    let below : suc (a .row - 1) < a .job .law .order = omega (arith, s .pre .0 .0, c .before .before .if2 .left) in (
+    let below : suc (a .row - 1) < a .job .law .order = omega (arith, s .pre .0 .0, c .before .before .before .if2 .left) in (
       rw (s .pre .0 .1) (omega (arith, table .weights-least)),
       rw (s .pre .0 .1) (omega (arith, s .pre .0 .2 .all-most)),
       rw (sums-are c) (bound-fits (a .job .law) (a .weights .now) (a .x) _ basis (suc (a .row - 1)) _ below),
@@ -101,13 +109,16 @@ divide-sums-requires-2 c κs =
 returns-3 : tie.Need-returns-3
 returns-3 c =
     let d = c .before in
-    let t = d .before .before in
+    let t = d .before .before .before in
     let s = t .before .before .before in
     let a = s .args in
-    c .divide-sums2 .ensures
-    ∙ ap₂ rounded (ap (λ (r : Divisors). r .further) (s .pre .0 .1)) (sums-are d)
-    ∙ sym (entry-later (a .job) (a .weights .now) _ (a .row) (a .x) (t .before .if1 .left) (suc (a .row - 1))
-    (suc-pred (a .row) (t .if2 .left)))
+    let divisor = ap (λ (r : Divisors). r .further) (s .pre .0 .1) in
+    let row = suc-pred (a .row) (t .if2 .left) in (
+      c .divide-sums2 .ensures .0 ∙ ap₂ rounded divisor (sums-are d)
+          ∙ sym (entry-later (a .job) (a .weights .now) _ (a .row) (a .x) (t .before .if1 .left) (suc (a .row - 1)) row),
+      c .divide-sums2 .ensures .1 ∙ ap₂ dividesSums divisor (sums-are d)
+          ∙ sym (divides-later (a .job) (a .weights .now) _ (a .row) (a .x) (t .before .if1 .left) (suc (a .row - 1)) row),
+    )
 
 pub entry-at-spec : {M : Type 1} → statement M
 entry-at-spec =
@@ -119,6 +130,7 @@ entry-at-spec =
     divisor-zero-requires
     divide-sums-requires
     returns-2
+    (λ c κs. search needs)
     (λ c κs. search needs)
     (λ c. search needs)
     add-row-requires

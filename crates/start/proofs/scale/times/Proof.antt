@@ -28,13 +28,14 @@ mul-divide-2 c =
 returns : tie.Need-returns
 unfolding times
 returns c =
-    let s = c .before .before .before .before .before .before .before in
+    let d = c .before in
+    let s = d .before .before .before .before .before .before .before in
     let k = sizes s in
     let low = ends s .low-fits in
     let high = ends s .high-fits in
     let low-product = k .low-product in
     let high-product = k .high-product in
-    let (is-low, is-high) = simp (toZ-ofZ, k .factor-low, k .factor-high) at (c .divide .ensures) in
+    let (is-low, is-high) = simp (toZ-ofZ, k .factor-low, k .factor-high) at (d .divide .ensures .0) in
     same-ends is-low is-high
 
 pub times-spec : {M : Type 1} → statement M
