@@ -1,9 +1,9 @@
 """The calls that the program crates/calls makes, and what the calculator says to each. Checks that the calculator gives the answer that the
 case asks for, that the exact amounts of an accepted curve lie within its lows and highs and the exact chance of no claims within its start,
-that with a weight at 0 these amounts are those of Theorem 9 and this start that of a changed mean or chance, that what sure and possible
-say of such a curve is true of its exact amounts, and what layers says of it of mean payments, that the law made from a customer's line
-follows this line, and that the program's files stdin and stdout hold just these calls and the calculator's answers; with --write it writes
-the files first."""
+that with a weight at 0 these amounts are those of Theorem 9 and this start that of a changed mean or chance, that the marked entries of
+such a curve are exact amounts, that what sure and possible say of it is true of these, and what layers says of it of mean payments, that
+the law made from a customer's line follows this line, and that the program's files stdin and stdout hold just these calls and the
+calculator's answers; with --write it writes the files first."""
 import pathlib
 import sys
 from collections import Counter
@@ -20,6 +20,7 @@ from followed import another_law, off_hesselager, off_panjer_willmot
 from layer import array, layers
 from level import possible, sure
 from limits import LAST_TOTAL
+from marked import kinds_of_marks, wrong_marks
 from outward import Lent, curve
 from paid import tried_on_curve
 from published import law_hesselager, law_panjer_willmot
@@ -32,10 +33,13 @@ from summed import beside_sums, off_zero_total
 FOLDER = pathlib.Path(__file__).parent.parent / "crates/calls"
 
 # what a place of the rows that a call writes into holds before it
-MARK = -2 ** 63
+UNTOUCHED = -2 ** 63
 
 # how often sure and possible are answered by these numbers, at least, on the curves' rows
 LEVELS = {(0, 0): 1000, (34, 0): 500, (34, 35): 100}
+
+# how many marked entries of each kind are set beside the exact amounts, at least
+MARKS = {"past total 0": 5000, "not 0": 300, "below 0": 12, "ends apart": 70, "order above 1": 700, "weight at 0": 1000}
 
 # how many curves with a weight at 0 are set beside the sums of Theorem 9, at least: where the sum ends, and where a rest is left
 SUMS = {"whole": 40, "but for a rest": 90}
@@ -47,7 +51,7 @@ PAYMENTS = {"calls": 200, "layers": 2000, "exact amounts below d": 5000, "exact 
 
 class Call(NamedTuple):
     """A case as the program has it, and what is wrong with it; and of a curve, the numbers of the answers to the levels that were tried,
-    the kinds of what was tried on layers, and those of the sums that its amounts were set beside."""
+    the kinds of what was tried on layers, those of the sums that its amounts were set beside, and those of its marked entries."""
     name: str
     record: bytes
     line: bytes
@@ -55,6 +59,7 @@ class Call(NamedTuple):
     levels: tuple = ()
     payments: tuple = ()
     sums: tuple = ()
+    marks: tuple = ()
 
 
 def words(*numbers):
@@ -89,41 +94,62 @@ def reader_call(case):
     )
 
 
+def begins(row, *held):
+    """Whether the row has these numbers in front, and was not written behind them."""
+    return row == [*held, *[UNTOUCHED] * (len(row) - len(held))]
+
+
+def lent_faults(case, lent):
+    """The first refusals "write nothing. .. After 9 and 10 the first X+1 places of the" four "rows are 0. On acceptance they hold row 0.
+    After 9, 10 and acceptance the first" 12 "times (X+1) work places are 0. Later places are untouched." """
+    totals = case.job.last + 1
+    for name, row in vars(lent).items():
+        if case.number not in (0, 9, 10):
+            right = begins(row)
+        elif name == "work":
+            right = begins(row, *[0] * (12 * totals))
+        else:
+            right = begins(row, *(row[:totals] if case.number == 0 else [0] * totals))
+        if not right:
+            yield f"the {name} row is not as the call is to leave it"
+
+
 def curve_faults(case, said, lent):
     yield from differences((case.number, case.place), said)
+    yield from lent_faults(case, lent)
     if case.rows:
-        yield from differences(list(case.rows), [row[:case.job.last + 1] for row in (lent.low, lent.high, lent.bound)])
+        yield from differences(case.rows._asdict(), {name: vars(lent)[name][:case.job.last + 1] for name in case.rows._fields})
 
 
 def exact_checks(case, lent):
     """Of an accepted curve: its faults, the numbers that sure and possible answered at the levels that were tried, the kinds of what was
-    tried on layers, and those of the sums."""
+    tried on layers, those of the sums, and those of the marked entries."""
     amounts = amounts_per_unit(case.job, case.law, case.exact_to)
     levels = answers(lent, len(amounts))
     payments = list(tried_on_curve(case.job, lent, amounts))
     sums = [beside_sums(case.job, case.law, amounts)] if case.job.zero and case.law else []
-    faults = [*outside(case.job, lent, amounts), *untrue_totals(case.job, levels, amounts)]
+    faults = [*outside(case.job, lent, amounts), *wrong_marks(case.job, lent, amounts), *untrue_totals(case.job, levels, amounts)]
     faults += [fault for _, found in payments + sums for fault in found]
     numbers = [(said.number, may_be.number) for said, may_be in levels.values()]
-    return faults, numbers, [kind for kind, _ in payments], [kind for kind, _ in sums]
+    return faults, numbers, [kind for kind, _ in payments], [kind for kind, _ in sums], list(kinds_of_marks(case.job, lent))
 
 
 def written(row):
     """The places that the call wrote."""
-    return [f"{x}={held}" for x, held in enumerate(row) if held != MARK]
+    return [f"{x}={held}" for x, held in enumerate(row) if held != UNTOUCHED]
 
 
 def curve_call(case):
     job = case.job
     places = case.lent or [n + 2 for n in cases_curve.needed(min(job.last, LAST_TOTAL))]
-    lent = Lent(*([MARK] * n for n in places))
+    lent = Lent(*([UNTOUCHED] * n for n in places))
     said = curve(job, lent)
     faults, *tried = exact_checks(case, lent) if said == (0, 0) else [[]]
     return Call(
         case.name,
         words(2, job.order, job.divisor, *job.a, *job.b, job.low_start, job.high_start, job.last, job.zero) + counted(job.weights)
         + words(*places),
-        line(said, *map(written, (lent.low, lent.high, lent.bound, lent.work))),
+        line(said, *map(written, vars(lent).values())),
         [*curve_faults(case, said, lent), *faults],
         *tried,
     )
@@ -198,12 +224,12 @@ def layer_faults(case, said, rows):
     yield from differences((case.number, case.place), said)
     for end, row in enumerate(rows):
         asked = [cost[end] for cost in case.costs]
-        yield from differences(asked + [MARK] * (len(row) - len(asked)), row)
+        yield from differences(asked + [UNTOUCHED] * (len(row) - len(asked)), row)
 
 
 def layer_call(case):
     attachments, limits = [c for c, _ in case.layers], [d for _, d in case.layers]
-    rows = [[MARK] * n for n in case.places()]
+    rows = [[UNTOUCHED] * n for n in case.places()]
     said = layers(case.low, case.high, case.told(), array(attachments), array(limits), *rows)
     return Call(
         case.name,
@@ -248,12 +274,14 @@ def main():
     levels = Counter(numbers for call in calls for numbers in call.levels)
     payments = Counter(kind for call in calls for kind in call.payments)
     sums = Counter(kind for call in calls for kind in call.sums)
-    faults += [*too_few("levels", levels, LEVELS), *too_few("payments of layers", payments, PAYMENTS), *too_few("sums", sums, SUMS)]
+    marks = Counter(kind for call in calls for kind in call.marks)
+    faults += [*too_few("levels", levels, LEVELS), *too_few("payments of layers", payments, PAYMENTS), *too_few("sums", sums, SUMS),
+               *too_few("marked entries", marks, MARKS)]
     kinds = (f"{len(cases_reader.CASES)} sheets, {len(cases_curve.CASES)} curves, {len(cases_level.CASES)} levels, "
              f"{len(cases_start.MEANS) + len(cases_start.TRIALS)} starts, {len(cases_start.ZEROS)} starts with claims of zero, "
              f"{len(cases_published.PANJER_WILLMOT) + len(cases_published.HESSELAGER)} laws, {len(cases_layer.CASES)} lists of layers")
-    on_curves = (f"{sum(levels.values())} levels and {payments['layers']} layers on the curves, amounts of "
-                 f"{sum(sums.values())} curves beside the sums of Theorem 9")
+    on_curves = (f"{sum(levels.values())} levels, {payments['layers']} layers and {marks['past total 0']} marks past total 0 on the "
+                 f"curves, amounts of {sum(sums.values())} curves beside the sums of Theorem 9")
     print(*faults, f"calls: {kinds} set beside the calculator, {on_curves}, {len(faults)} faults", sep="\n")
     if faults:
         sys.exit(1)

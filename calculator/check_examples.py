@@ -1,6 +1,7 @@
 """Sets the sheets in examples/ beside the laws that examples/README.md and docs/CLASS.md name: the starts are U times the chance that the
-total is zero, rounded down and up, the terms give the law's count coefficients, and the exact amounts of the law lie from the lows to the
-highs of the table that the program is to write. Every sheet there must be known here."""
+total is zero, rounded down and up, the terms give the law's count coefficients, the exact amounts of the law lie from the lows to the
+highs of the table that the program is to write, and the table is right where it says that they are exact. Every sheet there must be known
+here."""
 import math
 import pathlib
 import sys
@@ -11,6 +12,7 @@ import exact
 import program
 from enclosed import amounts_per_unit
 from limits import MOST_WEIGHTS, UNIT
+from marked import wrong_marks
 from sheet import read_job
 from summed import beside_sums, sums_of_job
 
@@ -37,6 +39,7 @@ LAWS = {
     # no distribution: each amount is -1/2 times the one before
     "class/no_law.txt": (exact.geometric(-HALF), Fraction(1000, UNIT)),
     "class/two_tosses.txt": (exact.binomial(2, HALF), HALF ** 2),
+    "class/heads.txt": (exact.geometric(HALF), HALF),
     "class/two_groups.txt": (exact.together(VANS, exact.binomial(3, THIRD)), (4 * FIFTH) ** 5 * (2 * THIRD) ** 3),
     "class/bicycles.txt": (exact.together(VANS, exact.poisson(1)), (4 * FIFTH) ** 5 * e_to("-1")),
     "class/pairs.txt": (exact.together(exact.poisson(1), exact.bunches(2, exact.poisson(QUARTER))), e_to("-1.25")),
@@ -46,6 +49,9 @@ LAWS = {
     "class/barns.txt": (exact.poisson(2), e_to("-2")),
     "class/closed.txt": (exact.poisson(2), e_to("-2")),
 }
+# Where every chance is exact: "Coin-toss examples divide without remainder". Three tosses with sizes 1 and 2 come to 64ths of U, two with
+# size 1 to quarters; and 1000 is halved three times.
+EXACT = {"coin_toss.txt", "class/two_tosses.txt", "class/no_law.txt"}
 REFUSED = {"refused.txt": b"REFUSED 24 9\n", "older.txt": b"REFUSED 23 5\n", "class/growing.txt": b"REFUSED 10 19\n"}
 
 
@@ -70,14 +76,14 @@ def table_faults(job, table, law, start):
     heading, *lines = table.splitlines()
     if len(lines) != job.last + 1:
         yield f"no table, but {heading!r}"
-    amounts = amounts_per_unit(job, law)
+        return
+    rows, amounts = program.rows_of(table), amounts_per_unit(job, law)
     if job.zero:
         yield from beside_sums(job, law, amounts)[1]
-    for line in lines:
-        total, low, high, _ = map(int, line.split())
-        amount = start * amounts[total]
-        if not low <= amount <= high:
-            yield f"at {total}: the exact amount, about {float(amount)}, is not from {low} to {high}"
+    for total, amount in enumerate(amounts):
+        if not rows.low[total] <= start * amount <= rows.high[total]:
+            yield f"at {total}: the exact amount, about {float(start * amount)}, is not from {rows.low[total]} to {rows.high[total]}"
+    yield from wrong_marks(job, rows, amounts)
 
 
 def faults(name):
@@ -93,6 +99,8 @@ def faults(name):
         yield from start_faults(job, start)
         if name not in REFUSED:
             yield from table_faults(job, table, law, start)
+            if (name in EXACT) == (b" N\n" in table):
+                yield f"the calculator has {'an N' if name in EXACT else 'no N'} in the column EXACT"
 
 
 def main():

@@ -1,6 +1,6 @@
 """Sets the calls in crates/cases/specs/Cases.antt beside outward.py, sheet.py, level.py, layer.py, start.py, published.py and program.py,
-and the lows and highs of curves beside the exact amounts of exact.py. Every row must be read, and agree. Short names are read as the file
-defines them, with parameters or without; words that it takes from elsewhere are in WORDS. Another file of this form can be given as an
+and the lows, highs and marks of curves beside the exact amounts of exact.py. Every row must be read, and agree. Short names are read as the
+file defines them, with parameters or without; words that it takes from elsewhere are in WORDS. Another file of this form can be given as an
 argument."""
 import operator
 import pathlib
@@ -13,6 +13,7 @@ from typing import NamedTuple
 from enclosed import amounts_per_unit, outside
 from layer import array, layers
 from level import possible, sure
+from marked import kinds_of_marks, wrong_marks
 from outward import Job, Lent, curve
 from program import output
 from published import law_hesselager, law_panjer_willmot
@@ -103,8 +104,9 @@ def on_program(sheet):
     return {"text": output(bytes(sheet)).decode()}
 
 
-# each with the number of rows that there are at least; and so many curves have a weight at 0
+# each with the number of rows that there are at least; and so many curves have a weight at 0, and so many entries past total 0 a mark
 WITH_ZERO = 4
+MARKED = 40
 KINDS = {"curve": (on_curve, 17 + WITH_ZERO), "reader": (on_reader, 8), "level": (on_level, 14), "layers": (on_layers, 13),
          "mean": (on_mean, 7), "trials": (on_trials, 10), "panjerWillmot": (on_panjer_willmot, 9), "hesselager": (on_hesselager, 7),
          "program": (on_program, 5)}
@@ -142,7 +144,7 @@ WORDS = {
     "layerList": lambda count: lambda from_: lambda to: {"count": count, "attachments": array(from_), "limits": array(to)},
     "accepted": answer(0, 0),
     "refused": lambda number: lambda place: answer(number, place),
-    "lentRows": lambda low: lambda high: lambda bound: lambda work: {"low": low, "high": high, "bound": bound, "work": work},
+    "lentRows": lambda low: lambda high: lambda bound: lambda mark: lambda work: vars(Lent(low, high, bound, mark, work)),
 }
 
 # each with how strongly it binds, to its left and to its right
@@ -252,6 +254,12 @@ def is_accepted_curve(row):
     return row.kind == "curve" and row.parts()[1][0] == answer(0, 0)
 
 
+def marks_later(row):
+    """How many entries past total 0 have a mark, as the table says."""
+    (job, weights, _), (_, rows) = row.parts()
+    return list(kinds_of_marks(job_of(job, weights), Lent(**rows))).count("past total 0")
+
+
 def differences(row):
     given, claims = row.parts()
     said = KINDS[row.kind][0](*given)
@@ -260,8 +268,9 @@ def differences(row):
     faults = [f"{name}: the table has {stated!r}, the calculator {found!r}"
               for (name, found), stated in zip(said.items(), claims) if stated != found]
     if is_accepted_curve(row) and not faults:
-        job = job_of(*given[:2])
-        faults += outside(job, Lent(**said["lent rows"]), amounts_per_unit(job))
+        job, rows = job_of(*given[:2]), Lent(**said["lent rows"])
+        amounts = amounts_per_unit(job)
+        faults += [*outside(job, rows, amounts), *wrong_marks(job, rows, amounts)]
     return faults
 
 
@@ -273,10 +282,13 @@ def main():
         wrong += bool(faults)
         for fault in faults:
             print(f"row {number}: {fault}")
-    accepted = sum(map(is_accepted_curve, rows))
-    print(f"the paper's cases: {len(rows)} rows set beside the calculator, {accepted} of them with exact amounts, {wrong} differ")
+    accepted = [row for row in rows if is_accepted_curve(row)]
+    marked = sum(map(marks_later, accepted))
+    print(f"the paper's cases: {len(rows)} rows set beside the calculator, {len(accepted)} of them with exact amounts, {marked} of these "
+          f"marked past total 0, {wrong} differ")
     kinds = Counter(row.kind for row in rows)
-    if wrong or any(kinds[kind] < least for kind, (_, least) in KINDS.items()) or sum(map(has_zero, rows)) < WITH_ZERO:
+    too_few = any(kinds[kind] < least for kind, (_, least) in KINDS.items()) or sum(map(has_zero, rows)) < WITH_ZERO or marked < MARKED
+    if wrong or too_few:
         sys.exit(1)
 
 

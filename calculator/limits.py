@@ -13,8 +13,8 @@ MOST_SUM = 1000
 # "Last total X, 0 to 500": 0 counts too
 LAST_TOTAL = 500
 MOST_TOTALS = LAST_TOTAL + 1
-# "the work row below 9 times (X+1)"
-WORK_COLUMNS = 9
+# "The work row is then 12 times (X+1) places"
+WORK_COLUMNS = 12
 # "a low or high of any row lies outside -2U to 2U"; "a bound of any row is above U"
 MOST_END = 2 * UNIT
 MOST_BOUND = UNIT

@@ -1,5 +1,6 @@
-"""The outward rule and the curve call as the paper and Wishes 4 and 7 have them, in Python's whole numbers."""
+"""The outward rule and the curve call as the paper and Wishes 4, 7 and 10 have them, in Python's whole numbers."""
 from dataclasses import dataclass
+from typing import NamedTuple
 
 from limits import LAST_TOTAL, MOST_BOUND, MOST_DIVISOR, MOST_END, MOST_ORDER, MOST_SUM, MOST_TERM, MOST_WEIGHTS, UNIT, WORK_COLUMNS
 
@@ -24,16 +25,27 @@ class Lent:
     low: list
     high: list
     bound: list
+    mark: list
     work: list
 
 
+class Entry(NamedTuple):
+    """Of any row, at one total. The mark is 1 where the entry is exact, and 0 otherwise."""
+    low: int
+    high: int
+    bound: int
+    mark: int
+
+
 def down(n, d):
-    """Divided and rounded towards minus infinity, which is what // does."""
-    return n // d
+    """Divided and rounded towards minus infinity, which is what divmod does; and whether this left a remainder."""
+    quotient, remainder = divmod(n, d)
+    return quotient, remainder != 0
 
 
 def up(n, d):
-    return -((-n) // d)
+    quotient, left = down(-n, d)
+    return -quotient, left
 
 
 def whole(job):
@@ -47,9 +59,9 @@ def thinned_divisor(job):
 
 
 def first_entries(job):
-    """The entries (low, high, bound) of rows 0 to k-1 at total 0."""
-    start = (job.low_start, job.high_start, job.high_start - job.low_start)
-    return [start] + [(0, 0, 0)] * (job.order - 1)
+    """The entries of rows 0 to k-1 at total 0: "An entry is exact at total 0"."""
+    start = Entry(job.low_start, job.high_start, job.high_start - job.low_start, 1)
+    return [start] + [Entry(0, 0, 0, 1)] * (job.order - 1)
 
 
 def allowance(divisor):
@@ -58,12 +70,23 @@ def allowance(divisor):
     return 1 if divisor > 1 else 0
 
 
+def keeps_exact(factor, entry):
+    """Whether an exact entry can come of this one: "every entry used with a nonzero factor and weight is exact and, under a negative
+    factor, has equal ends". The weight is part of the factor here."""
+    return factor == 0 or entry.mark == 1 and (factor > 0 or entry.low == entry.high)
+
+
 def outward(products, divisor):
-    """One entry from pairs of a factor and an entry, by the whole divisor of its row and total."""
-    low_sum = sum(factor * (low if factor >= 0 else high) for factor, (low, high, _) in products)
-    high_sum = sum(factor * (high if factor >= 0 else low) for factor, (low, high, _) in products)
-    bound_sum = sum(abs(factor) * bound for factor, (_, _, bound) in products)
-    return down(low_sum, divisor), up(high_sum, divisor), up(bound_sum, divisor) + allowance(divisor)
+    """One entry from pairs of a factor and an entry, by the whole divisor of its row and total. What the bound's division leaves plays no
+    part in the mark."""
+    low_sum = sum(factor * (low if factor >= 0 else high) for factor, (low, high, _, _) in products)
+    high_sum = sum(factor * (high if factor >= 0 else low) for factor, (low, high, _, _) in products)
+    bound_sum = sum(abs(factor) * bound for factor, (_, _, bound, _) in products)
+    low, low_left = down(low_sum, divisor)
+    high, high_left = up(high_sum, divisor)
+    bound, _ = up(bound_sum, divisor)
+    exact = not low_left and not high_left and all(keeps_exact(factor, entry) for factor, entry in products)
+    return Entry(low, high, bound + allowance(divisor), int(exact))
 
 
 def next_entries(job, earlier):
@@ -115,7 +138,8 @@ def check_places(job, lent):
     if not 0 <= job.last <= LAST_TOTAL:
         return 7, 0
     places = job.last + 1
-    if min(len(lent.low), len(lent.high), len(lent.bound)) < places or len(lent.work) < WORK_COLUMNS * places:
+    shortest = min(map(len, (lent.low, lent.high, lent.bound, lent.mark)))
+    if shortest < places or len(lent.work) < WORK_COLUMNS * places:
         return 8, 0
     return None
 
@@ -127,9 +151,9 @@ def first_check(job, lent):
 
 def fault(entries, x):
     """Refusal 9 or 10 at total x, or None."""
-    if any(abs(end) > MOST_END for low, high, _ in entries for end in (low, high)):
+    if any(abs(end) > MOST_END for entry in entries for end in (entry.low, entry.high)):
         return 9, x
-    if any(bound > MOST_BOUND for _, _, bound in entries):
+    if any(entry.bound > MOST_BOUND for entry in entries):
         return 10, x
     return None
 
@@ -141,7 +165,7 @@ def run(job):
         totals.append(next_entries(job, totals) if totals else first_entries(job))
         refusal = fault(totals[x], x)
         if refusal:
-            return refusal, [(0, 0, 0)] * (job.last + 1)
+            return refusal, [Entry(0, 0, 0, 0)] * (job.last + 1)
     return None, [entries[0] for entries in totals]
 
 
@@ -152,6 +176,6 @@ def curve(job, lent):
         return refusal
     refusal, row = run(job)
     places = job.last + 1
-    lent.low[:places], lent.high[:places], lent.bound[:places] = map(list, zip(*row))
+    lent.low[:places], lent.high[:places], lent.bound[:places], lent.mark[:places] = zip(*row)
     lent.work[:WORK_COLUMNS * places] = [0] * (WORK_COLUMNS * places)
     return refusal or (0, 0)

@@ -9,7 +9,7 @@ from sheet import read_sheet
 
 def long_enough():
     """Rows for every last total that the curve call accepts; a greater one is refused by 7 before their places count."""
-    return Lent(*([0] * MOST_TOTALS for _ in range(3)), [0] * (WORK_COLUMNS * MOST_TOTALS))
+    return Lent(*([0] * MOST_TOTALS for _ in range(4)), [0] * (WORK_COLUMNS * MOST_TOTALS))
 
 
 def refusal(number, place):
@@ -17,8 +17,16 @@ def refusal(number, place):
 
 
 def table(lent, last):
-    rows = zip(range(last + 1), lent.low, lent.high, lent.bound)
-    return "TOTAL LOW HIGH BOUND\n" + "".join(f"{total} {low} {high} {bound}\n" for total, low, high, bound in rows)
+    rows = zip(range(last + 1), lent.low, lent.high, lent.bound, lent.mark)
+    lines = [f"{total} {low} {high} {bound} {'Y' if mark else 'N'}\n" for total, low, high, bound, mark in rows]
+    return "TOTAL LOW HIGH BOUND EXACT\n" + "".join(lines)
+
+
+def rows_of(printed):
+    """The rows that a table shows, of which the work row is none."""
+    lines = [line.split() for line in printed.splitlines()[1:]]
+    low, high, bound = ([int(line[column]) for line in lines] for column in (1, 2, 3))
+    return Lent(low, high, bound, [int(line[4] == b"Y") for line in lines], [])
 
 
 def text(sheet):
