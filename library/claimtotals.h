@@ -23,15 +23,15 @@ extern "C" {
 #endif
 
 /* The version of this header, as a number, major * 10,000 + minor * 100 + patch, and as text. */
-#define CLAIMTOTALS_VERSION 700
-#define CLAIMTOTALS_VERSION_TEXT "0.7.0"
+#define CLAIMTOTALS_VERSION 800
+#define CLAIMTOTALS_VERSION_TEXT "0.8.0"
 
 #define CLAIMTOTALS_UNIT INT64_C(1000000000)
 
-/* Rows of these numbers of places are always long enough: the weights of a table; low, high and bound; and the work row. */
+/* Rows of these numbers of places are always long enough: the weights of a table; low, high, bound and mark; and the work row. */
 #define CLAIMTOTALS_WEIGHTS 500
 #define CLAIMTOTALS_TOTALS 501
-#define CLAIMTOTALS_WORK (9 * CLAIMTOTALS_TOTALS)
+#define CLAIMTOTALS_WORK (12 * CLAIMTOTALS_TOTALS)
 
 /* The two arrays of a list of layers have so many places; rows of as many are always long enough for their costs. */
 #define CLAIMTOTALS_LAYERS 64
@@ -107,7 +107,7 @@ uint64_t claimtotals_law_panjer_willmot(int64_t alpha_0, int64_t alpha_1, int64_
    law. */
 uint64_t claimtotals_law_hesselager(int64_t b_0, int64_t b_1, int64_t a_0, int64_t a_1, uint64_t *divisor, int64_t *a, int64_t *b);
 
-/* The curve of a job: low, high and bound of each total from 0 to X.
+/* The curve of a job: low, high, bound and mark of each total from 0 to X.
 
    order         k, the order of the law
    divisor       D, the divisor of its terms
@@ -120,10 +120,11 @@ uint64_t claimtotals_law_hesselager(int64_t b_0, int64_t b_1, int64_t a_0, int64
    weights       w(1)..w(m), the weights of the claim sizes 1 to m, and their number m; only read
    low, high,
    bound         rows for the answer, X+1 places or more
-   work          a row to work in, 9(X+1) places or more
+   mark          a row for the marks, 1 or 0, X+1 places or more
+   work          a row to work in, 12(X+1) places or more
    place         the place of a refusal; 0 after an acceptance
 
-   0    accepted: the first X+1 places of the three rows hold the curve
+   0    accepted: the first X+1 places of low, high, bound and mark hold the curve
    1    the order k of the law is not 1 to 4
    2    the divisor D is not 1 to 1,000
    3    a term is not from -1,000 to 1,000, or is past k and not 0; the place is the smallest such i, from 1
@@ -134,18 +135,22 @@ uint64_t claimtotals_law_hesselager(int64_t b_0, int64_t b_1, int64_t a_0, int64
    12   D W - A w(0), the divisor of the terms once claims of size 0 are left out, is zero or less
    13   the weights of the sizes from 1 on are all 0
    7    the last total X is above 500
-   8    a row has fewer than X+1 places, or the work row fewer than 9(X+1)
+   8    a row has fewer than X+1 places, or the work row fewer than 12(X+1)
    9    a low or a high would lie outside -2U to 2U, where U is 1,000,000,000, in the curve or in one of the further rows that an order
         above 1 needs; the place is the smallest total with this fault or the next
    10   a bound would be above U, which is 1,000,000,000, in the curve or in one of the further rows that an order above 1 needs, so that
         the interval might say nothing; the place is the smallest total with a fault, and 9 comes first there
 
-   After 9 and 10 the first X+1 places of the three rows are 0. After 0, 9 and 10 the first 9(X+1) places of the work row are 0. Later
-   places keep what they held. */
+   After 9 and 10 the first X+1 places of low, high, bound and mark are 0. After 0, 9 and 10 the first 12(X+1) places of the work row are 0.
+   Later places keep what they held.
+
+   What a mark of 1 says: if the chance of total 0 is s over U, that of this total is low over U; if it is t over U, this is high over U.
+   Where low and high are equal, and the true chance of total 0 lies from s to t in units, the chance is this number over U, with no digit
+   missing. A mark of 0 does not say that low or high is wrong; low is below high there. */
 uint64_t claimtotals_curve(uint64_t order, uint64_t divisor, const int64_t a[4], const int64_t b[4], uint64_t start_low,
                            uint64_t start_high, uint64_t last, uint64_t zero, const uint64_t *weights, size_t weights_length,
                            int64_t *low, size_t low_length, int64_t *high, size_t high_length, int64_t *bound, size_t bound_length,
-                           int64_t *work, size_t work_length, size_t *place);
+                           int64_t *mark, size_t mark_length, int64_t *work, size_t work_length, size_t *place);
 
 /* The numbers of a sheet.
 

@@ -261,7 +261,7 @@ def check_library_build(room):
     """`library/build` shows a fault too, and leaves no old library."""
     copy = Copy(room, "library")
     copy.run("library/build")
-    if copy.library_files() != ["claimtotals.h", "libclaimtotals.a", "libclaimtotals.so", "libclaimtotals.so.0.7"]:
+    if copy.library_files() != ["claimtotals.h", "libclaimtotals.a", "libclaimtotals.so", "libclaimtotals.so.0.8"]:
         raise Fault(f"it left {copy.library_files()}")
     hold_to_failure(copy.run("library/build", FAILS="model"), "error[unknown-name]", most=5)
     hold_to_no_library(copy)
@@ -351,12 +351,22 @@ def check_damaged(room, part, command, *words):
         check_run(Asked(2, b"", rf"{command}: .*{re.escape(path.name)}.*\n"), path.parents[1] / command, *words, given=COIN_TOSS)
 
 
+def version_call(major, minor, patch):
+    """In C, of a library that has no other call."""
+    return f"unsigned long claimtotals_version(void) {{ return {10_000 * major + 100 * minor + patch}; }}\n"
+
+
 def check_other_library(room):
-    """A library that lacks a call, as one of an older version does."""
+    """A library of another version, the last number apart, or one that lacks a call."""
     folder = archive(room, "other library")
-    run("cc", "-shared", "-o", folder / "lib/libclaimtotals.so", "-x", "c", "/dev/null")
-    said = r"claimtotals: .*has no claimtotals_\w+: it is another version's.*\n"
-    check_run(Asked(2, b"", said), folder / "claimtotals", "table", "-", given=COIN_TOSS)
+    major, minor, patch = map(int, (ROOT / "VERSION").read_text().split("."))
+    others = [(major, minor - 1, patch), (major, minor + 1, patch), (major + 1, minor, patch)]
+    libraries = {version_call(*other): "version {}, and not {}.{}".format(".".join(map(str, other)), major, minor) for other in others}
+    libraries.update({version_call(major, minor, patch + 1): "no claimtotals_start_mean", "": "no claimtotals_version"})
+    for source, has in libraries.items():
+        run("cc", "-shared", "-o", folder / "lib/libclaimtotals.so", "-x", "c", "-", given=source.encode())
+        said = f"libclaimtotals.so has {has}: it is another version's, and is to be built anew\n"
+        check_run(Asked(2, b"", f"claimtotals: .*{re.escape(said)}"), folder / "claimtotals", "table", "-", given=COIN_TOSS)
 
 
 def check_safe_path(room):

@@ -157,8 +157,9 @@ def refusal(sheet):
 
 
 def rows(sheet):
-    """Total, low, high and bound of each line of an accepted sheet's table."""
-    return [tuple(map(int, line.split())) for line in written(sheet).splitlines()[1:]]
+    """Total, low, high and bound of each line of an accepted sheet's table, and its letter."""
+    lines = (line.split() for line in written(sheet).splitlines()[1:])
+    return [(*map(int, numbers), letter) for *numbers, letter in lines]
 
 
 def shown(word):
@@ -231,7 +232,7 @@ def text(*lines):
 SMALL = ["LAW 1 1", "TERM 0 1", "START 367879441 367879442", "LAST 3", "ZERO 0", "SEVERITY 2", "W 1", "W 1"]
 # The chances of the first add up to 1; line 9 of the second is refused by 24.
 COIN_TOSS, SLIP = ((ROOT / "examples" / name).read_bytes() for name in ("coin_toss.txt", "refused.txt"))
-# a table with long lines, of 17,946 bytes in all; and a sheet with the most weights and totals
+# a table with long lines, of 18,954 bytes in all; and a sheet with the most weights and totals
 WIDE = text("LAW 1 1", "TERM -1 0", f"START 600000000 {UNIT}", f"LAST {LAST_TOTAL}", "ZERO 0", "SEVERITY 1", "W 1")
 LONG = text(*SMALL[:3], f"LAST {LAST_TOTAL}", "ZERO 0", f"SEVERITY {MOST_WEIGHTS}", *["W 2"] * MOST_WEIGHTS)
 

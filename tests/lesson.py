@@ -52,9 +52,18 @@ def lines(name, other=None):
     return program.output(sheet(name, other)).decode().splitlines()
 
 
+def numbers(line):
+    """Total, low, high and bound of a line of a table."""
+    return tuple(map(int, line.split()[:4]))
+
+
 def rows(name, other=None):
-    """Total, low, high and bound."""
-    return [tuple(map(int, line.split())) for line in lines(name, other)[1:]]
+    return [numbers(line) for line in lines(name, other)[1:]]
+
+
+def marks(name, other=None):
+    """The column EXACT: Y or N of each total."""
+    return "".join(line.split()[4] for line in lines(name, other)[1:])
 
 
 def entries(read, last):
@@ -62,7 +71,7 @@ def entries(read, last):
     totals = [first_entries(read)]
     while len(totals) <= last:
         totals.append(next_entries(read, totals))
-    return totals
+    return [[entry[:3] for entry in total] for total in totals]
 
 
 def layers_asked(typed, name, other=None):
@@ -141,6 +150,11 @@ def value(node):
 def evaluate(words):
     """An expression of whole numbers, decimals and + - × / ^, in exact fractions."""
     return value(ast.parse(words.strip().replace("×", "*").replace("^", "**"), mode="eval").body)
+
+
+def up(number, divisor):
+    """Divided and rounded up."""
+    return -(-number // divisor)
 
 
 def decimal(count, digits):

@@ -6,13 +6,13 @@ from decimal import Context, Decimal
 from fractions import Fraction
 from itertools import accumulate, combinations, product
 
-from lesson import Law, both_round_to, cut, entries, evaluate, job, lines, rows
+from lesson import Law, both_round_to, cut, entries, evaluate, job, lines, rows, up
 
 import exact
 from level import possible, sure
 from limits import LAST_TOTAL, UNIT
 from nearest import nearest, nine_digits
-from outward import Job, outward, up
+from outward import Job
 from start import LAST_TERM
 
 # the lines that questions 2.4, 2.5 and 4.2 ask for
@@ -241,7 +241,8 @@ def binomial_table():
 def allowance(divisor):
     """What the calculator adds to the bound, beside the bound sum over the divisor, rounded up."""
     bound_sum = 7
-    return outward([(bound_sum, (0, 0, 1))], divisor)[2] - up(bound_sum, divisor)
+    read = Job(1, divisor, [0] * 4, [bound_sum, 0, 0, 0], 4, 5, [1], 1)
+    return entries(read, 1)[1][0][2] - up(bound_sum, divisor)
 
 
 def widening(divisor):

@@ -5,7 +5,7 @@ from fractions import Fraction
 from itertools import product
 from typing import NamedTuple
 
-from lesson import AND, Law, cut, entries, job, lines, rows, sheet
+from lesson import AND, Law, cut, entries, job, lines, numbers, rows, sheet
 from lesson_numbers import E_1, FIFTH, HALF, QUARTER, THIRD, WINDOWS, e_term, where
 
 import exact
@@ -170,7 +170,7 @@ class Typed(NamedTuple):
         return Fraction(MEAN * sizes, self.zero + sum(self.weights))
 
     def rows(self):
-        return [tuple(map(int, line.split())) for line in program.output(self.sheet()).decode().splitlines()[1:]]
+        return [numbers(line) for line in program.output(self.sheet()).decode().splitlines()[1:]]
 
     def cost(self, c, d):
         """Low and high of a layer."""

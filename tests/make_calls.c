@@ -56,12 +56,13 @@ static void call_curve(void) {
     uint64_t order = number(), divisor = number();
     struct row a = take_row(8), b = take_row(8);
     uint64_t start_low = number(), start_high = number(), last = number(), zero = number();
-    struct row weights = take_row(8), low = take_row(8), high = take_row(8), bound = take_row(8), work = take_row(8), place = take_row(8);
+    struct row weights = take_row(8), low = take_row(8), high = take_row(8), bound = take_row(8), mark = take_row(8), work = take_row(8);
+    struct row place = take_row(8);
     uint64_t answer = claimtotals_curve(order, divisor, a.block, b.block, start_low, start_high, last, zero, weights.block,
                                         weights.places, low.block, low.places, high.block, high.places, bound.block, bound.places,
-                                        work.block, work.places, place.block);
+                                        mark.block, mark.places, work.block, work.places, place.block);
     give(&answer, sizeof answer);
-    struct row rows[] = {a, b, weights, low, high, bound, work, place};
+    struct row rows[] = {a, b, weights, low, high, bound, mark, work, place};
     give_rows(rows, sizeof rows / sizeof *rows);
 }
 

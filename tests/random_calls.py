@@ -3,6 +3,7 @@ takes its chances from `r`, a random.Random, but for `numbered`, which makes one
 import random
 import re
 from array import array
+from collections.abc import Sequence
 from functools import partial
 from itertools import accumulate
 from typing import NamedTuple
@@ -13,6 +14,7 @@ from layer import layers
 from level import possible, sure
 from limits import (LAST_TOTAL, MOST_DIVISOR, MOST_END, MOST_LAYERS, MOST_LOWER, MOST_MEAN, MOST_ORDER, MOST_SUM, MOST_TERM, MOST_TOTALS,
                     MOST_TRIALS, MOST_WEIGHTS, UNIT, WORK_COLUMNS)
+from marked import kinds_of_marks
 from outward import Job, Lent, curve
 from published import law_hesselager, law_panjer_willmot
 from random_sheets import near
@@ -38,12 +40,13 @@ class Row(NamedTuple):
 
 
 class Call(NamedTuple):
-    """A call by its name and its parameters, each with a name and a number or a row; the answer (0 for a call that has none), and what
-    the call is counted as."""
+    """A call by its name and its parameters, each with a name and a number or a row; the answer (0 for a call that has none), what the
+    call is counted as, and the kinds of entries that its curve has, if it has one."""
     name: str
     parameters: list
     answer: int
     outcome: object
+    entries: Sequence = ()
 
 
 def packed(kind, numbers):
@@ -56,20 +59,21 @@ def read_only(kind, numbers, told=True):
     return Row(kind, content, content, told)
 
 
-def marks(r, kind, count):
+def filling(r, kind, count):
     """What so many places of a row hold before the call."""
     return array(kind, r.randbytes(count * array(kind).itemsize)).tolist()
 
 
 def number_row(r, kind, *after):
     """One number that the call gives back, or the four terms of a law."""
-    return Row(kind, packed(kind, marks(r, kind, len(after))), packed(kind, after), False)
+    return Row(kind, packed(kind, filling(r, kind, len(after))), packed(kind, after), False)
 
 
 # ---- jobs for the curve call
 
 def good_job(r):
-    makers = {random_sheets.named: 46, random_sheets.free: 24, random_sheets.at_edge: 20, random_sheets.thin: 9, random_sheets.wide: 1}
+    makers = {random_sheets.named: 46, random_sheets.free: 24, random_sheets.at_edge: 20, random_sheets.thin: 9, random_sheets.wide: 1,
+              random_sheets.even: 15, random_sheets.even_in_row_0: 10}
     parts = r.choices(list(makers), list(makers.values()))[0](r)
     none = [0] * (MOST_ORDER - len(parts.terms))
     return Job(len(parts.terms), parts.divisor, [a for a, _ in parts.terms] + none, [b for _, b in parts.terms] + none, *parts.start,
@@ -147,15 +151,20 @@ def other_last(r, job):
 CHANGES = (other_order, other_divisor, other_term, other_start, other_count, other_sum, other_zero, other_zero, no_others, other_last)
 
 
+def needed_for(totals):
+    """How many places low, high, bound, mark and work need."""
+    return [totals, totals, totals, totals, WORK_COLUMNS * totals]
+
+
 def row_lengths(r, last):
-    """Of low, high, bound and work: mostly just long enough or longer, or long enough for every job."""
+    """Of low, high, bound, mark and work: mostly just long enough or longer, or long enough for every job."""
     if r.random() < 0.05:
-        return MOST_TOTALS, MOST_TOTALS, MOST_TOTALS, WORK_COLUMNS * MOST_TOTALS
+        return needed_for(MOST_TOTALS)
     totals = min(last, LAST_TOTAL + r.choice((0, 10))) + 1
-    needed = [totals, totals, totals, WORK_COLUMNS * totals]
+    needed = needed_for(totals)
     lengths = [length + r.choice((0, 0, 1, 7)) for length in needed]
     if r.random() < 0.15:
-        i = r.randrange(4)
+        i = r.randrange(len(needed))
         lengths[i] = r.choice((needed[i] - 1, needed[i] - 1, totals - 1, 0, 1, r.randint(0, needed[i])))
     return lengths
 
@@ -176,19 +185,27 @@ def curve_outcome(number, zero):
     return WITH_ZEROS if number == 0 and zero else number
 
 
+NO_MARK = "no mark"
+
+
+def kinds_of_entries(job, lent):
+    """Those of an accepted curve past total 0: of the marked ones, and that the others have no mark."""
+    return [*kinds_of_marks(job, lent), *[NO_MARK] * lent.mark[1:job.last + 1].count(0)]
+
+
 def curve_call(r):
     job = random_job(r)
-    before = [marks(r, SIGNED, length) for length in row_lengths(r, job.last)]
+    before = [filling(r, SIGNED, length) for length in row_lengths(r, job.last)]
     lent = Lent(*map(list, before))
     number, place = curve(job, lent)
-    low, high, bound, work = (Row(SIGNED, packed(SIGNED, held), packed(SIGNED, holds), True)
-                              for held, holds in zip(before, (lent.low, lent.high, lent.bound, lent.work)))
+    low, high, bound, mark, work = (Row(SIGNED, packed(SIGNED, held), packed(SIGNED, holds), True)
+                                    for held, holds in zip(before, (lent.low, lent.high, lent.bound, lent.mark, lent.work)))
     return Call("claimtotals_curve", [
         ("order", job.order), ("divisor", job.divisor), ("a", read_only(SIGNED, job.a, False)), ("b", read_only(SIGNED, job.b, False)),
         ("start_low", job.low_start), ("start_high", job.high_start), ("last", job.last), ("zero", job.zero),
-        ("weights", read_only(UNSIGNED, job.weights)), ("low", low), ("high", high), ("bound", bound), ("work", work),
+        ("weights", read_only(UNSIGNED, job.weights)), ("low", low), ("high", high), ("bound", bound), ("mark", mark), ("work", work),
         ("place", number_row(r, UNSIGNED, place)),
-    ], number, curve_outcome(number, job.zero))
+    ], number, curve_outcome(number, job.zero), kinds_of_entries(job, lent) if number == 0 else ())
 
 
 # ---- sheets for the reader
@@ -206,7 +223,7 @@ def reader_call(r):
     places = random_places(r, sheet)
     read = read_sheet(sheet, places)
     job = read.job
-    before = marks(r, UNSIGNED, places)
+    before = filling(r, UNSIGNED, places)
     after = job.weights + before[len(job.weights):]
     numbers = {"line": read.line, "order": job.order, "divisor": job.divisor, "start_low": job.low_start, "start_high": job.high_start,
                "last": job.last, "zero": job.zero, "count": len(job.weights)}
@@ -239,7 +256,7 @@ def curve_rows(r):
     """Lows and highs of a curve, if the job is accepted."""
     job = good_job(r)
     job.last = min(job.last, 30)
-    lent = Lent(*([0] * (job.last + 1) for _ in range(3)), [0] * (WORK_COLUMNS * (job.last + 1)))
+    lent = Lent(*([0] * length for length in needed_for(job.last + 1)))
     curve(job, lent)
     return lent.low, lent.high
 
@@ -397,7 +414,7 @@ def random_layers(r, count, places):
     wrong = partial(wrong_layer, r, max(1, places))
     at_fault = r.sample(range(told), min(told, r.choice((0, 0, 0, 0, 0, 1, 1, 2, 3, told))))
     pairs = [wrong() if place in at_fault else good() for place in range(told)]
-    pairs += [r.choice((good(), wrong(), marks(r, UNSIGNED, 2))) for _ in range(MOST_LAYERS - told)]
+    pairs += [r.choice((good(), wrong(), filling(r, UNSIGNED, 2))) for _ in range(MOST_LAYERS - told)]
     return [list(numbers) for numbers in zip(*pairs)]
 
 
@@ -419,7 +436,7 @@ def layers_call(r):
         change_rows(r, low, high)
     count = random_count(r)
     attachments, limits = random_layers(r, count, len(low))
-    before = [marks(r, SIGNED, answer_places(r, count)) for _ in range(2)]
+    before = [filling(r, SIGNED, answer_places(r, count)) for _ in range(2)]
     answer_low, answer_high = map(list, before)
     number, place = layers(low, high, count, attachments, limits, answer_low, answer_high)
     return Call("claimtotals_layers", [
@@ -557,3 +574,7 @@ CAN_ARISE = {
 
 # What each is counted as; all of it has to arise.
 OUTCOMES = {**CAN_ARISE, "claimtotals_curve": [WITH_ZEROS, *CAN_ARISE["claimtotals_curve"]]}
+
+# So many entries of each kind 30,000 calls have at least.
+LEAST_ENTRIES = {NO_MARK: 20_000, "past total 0": 9000, "not 0": 1300, "below 0": 180, "ends apart": 340, "order above 1": 4000,
+                 "weight at 0": 950}

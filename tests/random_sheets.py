@@ -6,7 +6,7 @@ from collections.abc import Callable
 from dataclasses import dataclass
 from decimal import Decimal
 from fractions import Fraction
-from typing import NamedTuple
+from typing import NamedTuple, Optional
 
 from limits import LAST_TOTAL, MOST_BYTES, MOST_DIVISOR, MOST_ORDER, MOST_SUM, MOST_TERM, MOST_WEIGHTS, UNIT
 
@@ -33,10 +33,11 @@ class Parts:
 # ---- named laws
 
 class Law(NamedTuple):
-    """A law of order 1 by its fractions a and b, and the chance that the total is zero, by the share of claims that are."""
+    """A law of order 1 by its fractions a and b, and, where it is a law of chances, the chance that the total is zero, by the share of
+    claims that are."""
     a: Fraction
     b: Fraction
-    nothing: Callable
+    nothing: Optional[Callable] = None
 
 
 def a_chance(r):
@@ -174,6 +175,36 @@ def wide(r):
     return Parts(r.choice((MOST_DIVISOR - 1, MOST_DIVISOR)), terms, start, LAST_TOTAL, 0, [0] * (size - 1) + [MOST_SUM])
 
 
+def whole_power(r):
+    """The law of (1 + cz)^n, with n of either sign, whose coefficients are whole, or of e^(cz), whose are whole over factorials."""
+    c, n = r.choice((-2, -1, 1, 1, 2)), r.choice((-3, -2, -1, 1, 1, 1, 2, 3, 6))
+    return Law(Fraction(0), Fraction(c)) if r.random() < 0.3 else Law(Fraction(-c), Fraction((n + 1) * c))
+
+
+def small_table(r):
+    return [r.choice((0, 1, 1, 2)) for _ in range(r.randint(0, 3))] + [r.choice((1, 1, 2, 8))]
+
+
+def even(r):
+    """Whole amounts, at all totals or at the first. The start is a multiple of a factorial and of a power of W - a w(0), which is over D
+    what row 0 divides by at total 1."""
+    laws = [whole_power(r) for _ in range(r.choice((1, 1, 1, 2, 2, 3, 4)))]
+    divisor = r.choice((1, 1, 1, 2, 3))
+    terms = [(int(a * divisor), int(b * divisor)) for a, b in together(laws)]
+    weights, zero = small_table(r), r.choice((0, 0, 0, 1, 2)) if len(laws) == 1 else 0
+    base = max(1, sum(weights) + zero - int(laws[0].a) * zero)
+    step = min(UNIT // 3, base ** r.randint(0, 5) * math.factorial(r.choice((0, 0, 3, 6))))
+    low, high = r.choice(((1, 1), (2, 2), (3, 3), (0, 1), (1, 2), (2, 3)))
+    return Parts(divisor, terms, (low * step, high * step), r.choice((r.randint(0, 12), r.randint(0, 12), 25)), zero, weights)
+
+
+def even_in_row_0(r):
+    """Row 0 leaves no remainder, as its factors are multiples of D W times the total; the further rows leave some."""
+    weights, divisor, low = small_table(r), r.choice((1, 1, 2)), r.randint(1, 9)
+    terms = [(divisor * sum(weights) * r.choice((-1, 0, 1, 1)), 0) for _ in range(r.randint(1, MOST_ORDER))]
+    return Parts(divisor, terms, (low, low + r.choice((0, 0, 1, 2))), r.randint(0, 8), 0, weights)
+
+
 def near(limit):
     """Just inside a limit, on it, and just outside, which is meant to come twice as often."""
     return limit - 1, limit, limit + 1, limit + 1
@@ -228,7 +259,7 @@ def at_limits(r):
 
 
 def good(r):
-    make = r.choices((named, free, at_edge, thin, wide, at_limits), (46, 15, 8, 6, 2, 23))[0]
+    make = r.choices((named, free, at_edge, thin, wide, even, even_in_row_0, at_limits), (46, 15, 8, 6, 2, 10, 6, 23))[0]
     return make(r).text()
 
 

@@ -28,7 +28,7 @@ struct job {
 
 /* Rows that are long enough for every job, so that the curve call never refuses by 8. */
 struct rows {
-    int64_t low[CLAIMTOTALS_TOTALS], high[CLAIMTOTALS_TOTALS], bound[CLAIMTOTALS_TOTALS];
+    int64_t low[CLAIMTOTALS_TOTALS], high[CLAIMTOTALS_TOTALS], bound[CLAIMTOTALS_TOTALS], mark[CLAIMTOTALS_TOTALS];
     int64_t work[CLAIMTOTALS_WORK];
 };
 
@@ -95,7 +95,7 @@ static int find_curve(const struct job *job, struct rows *rows) {
     uint64_t number =
         claimtotals_curve(job->order, job->divisor, job->a, job->b, job->start_low, job->start_high, job->last, job->zero, job->weights,
                           job->count, rows->low, CLAIMTOTALS_TOTALS, rows->high, CLAIMTOTALS_TOTALS, rows->bound, CLAIMTOTALS_TOTALS,
-                          rows->work, CLAIMTOTALS_WORK, &place);
+                          rows->mark, CLAIMTOTALS_TOTALS, rows->work, CLAIMTOTALS_WORK, &place);
     if (number != 0) fprintf(stderr, "refused by %" PRIu64 " at place %zu\n", number, place);
     return number == 0;
 }

@@ -31,8 +31,8 @@ if (!file.exists(command)) stop_with(2, "no command at ", command)
 lines <- suppressWarnings(system2(normalizePath(command), c("--", shQuote(given[1])), stdout = TRUE))
 if (!is.null(attr(lines, "status"))) quit(status = attr(lines, "status"))
 
-# As doubles, which hold whole numbers up to 2^53: sums of the rows, and of totals times entries, stay below 10^15.
-totals <- read.table(text = lines, header = TRUE, colClasses = "numeric")
+# Numbers as doubles, which hold whole ones up to 2^53: sums of the rows, and of totals times entries, stay below 10^15. EXACT has Y or N.
+totals <- read.table(text = lines, header = TRUE, colClasses = c(rep("numeric", 4), "character"))
 options(scipen = 20)  # 1000000000 is not to be printed as 1e+09
 print(totals, row.names = FALSE)
 

@@ -31,7 +31,7 @@ struct job {
 
 /* Rows that are long enough for every job, so that the curve call never refuses by 8. */
 struct rows {
-    int64_t low[CLAIMTOTALS_TOTALS], high[CLAIMTOTALS_TOTALS], bound[CLAIMTOTALS_TOTALS];
+    int64_t low[CLAIMTOTALS_TOTALS], high[CLAIMTOTALS_TOTALS], bound[CLAIMTOTALS_TOTALS], mark[CLAIMTOTALS_TOTALS];
     int64_t work[CLAIMTOTALS_WORK];
 };
 
@@ -79,16 +79,17 @@ static int find_curve(const struct job *job, struct rows *rows) {
     uint64_t number =
         claimtotals_curve(job->order, job->divisor, job->a, job->b, job->start_low, job->start_high, job->last, job->zero, job->weights,
                           job->count, rows->low, CLAIMTOTALS_TOTALS, rows->high, CLAIMTOTALS_TOTALS, rows->bound, CLAIMTOTALS_TOTALS,
-                          rows->work, CLAIMTOTALS_WORK, &place);
+                          rows->mark, CLAIMTOTALS_TOTALS, rows->work, CLAIMTOTALS_WORK, &place);
     if (number == 0) return 0;
     fprintf(stderr, "refused by %" PRIu64 " at place %zu\n", number, place);
     return 1;
 }
 
 static void print_table(const struct rows *rows, size_t totals) {
-    printf("TOTAL LOW HIGH BOUND\n");
+    printf("TOTAL LOW HIGH BOUND EXACT\n");
     for (size_t x = 0; x < totals; x++) {
-        printf("%zu %" PRId64 " %" PRId64 " %" PRId64 "\n", x, rows->low[x], rows->high[x], rows->bound[x]);
+        char exact = rows->mark[x] == 1 ? 'Y' : 'N';
+        printf("%zu %" PRId64 " %" PRId64 " %" PRId64 " %c\n", x, rows->low[x], rows->high[x], rows->bound[x], exact);
     }
 }
 

@@ -27,6 +27,10 @@ The start is the chance that the total is zero. Where claims close at nothing, Z
 chance, which README.md tells. `upgraded` gives the new sheet of one from before version 0.7.0, which has no line ZERO.
 `law_panjer_willmot` and `law_hesselager` give the divisor and the terms of a law, from the numbers of a publication's line.
 
+Where a row's `exact` is True, its low is the exact chance for the low end of the start, and its high that for the high end. Where they are
+equal too, `chance_is_exact` is True, and there is no digit but those shown, if the start is true. False stands only where low is below
+high, and does not say that they are wrong.
+
 Chances are in units of one billionth, what a layer costs is in billionths of a money unit. Every number comes from a call of the proved
 library; a call that refuses raises `Refused`, and what does not fit a call is a ValueError before it.
 """

@@ -350,11 +350,16 @@ def add_law(commands: argparse._SubParsersAction) -> None:
 
 def add_table(commands: argparse._SubParsersAction) -> None:
     parser = subcommand(
-        commands, "table", table, "The chance of each total: low, high and bound in billionths, as `curve` writes them.",
+        commands, "table", table,
+        "The chance of each total: low, high and bound in billionths, and Y or N, as `curve` writes them.\n"
+        "\n"
+        "Y says that low is exact for the low end of START, and high for its high end. Where they are equal too, and START is true, the\n"
+        "chance itself is exact. N stands only where low is below high, and does not say that they are wrong.",
         "examples/poisson.txt", "examples/poisson.txt --digits", "examples/poisson.txt --csv --decimal-comma")
     add_sheet(parser)
     forms = parser.add_mutually_exclusive_group()
-    forms.add_argument("--digits", action="store_true", help="only the true digits of each chance")
+    forms.add_argument("--digits", action="store_true",
+                       help="only the true digits of each chance, and `exact` where they are all of it, if START is true")
     forms.add_argument("--csv", action="store_true", help="for a spreadsheet, with chances as decimals")
     parser.add_argument("--decimal-comma", action="store_true", help="a comma in the decimals of --digits or --csv")
     parser.set_defaults(wrong=comma_alone)

@@ -6,7 +6,7 @@ from dataclasses import dataclass
 from typing import Iterable, Iterator, NamedTuple
 
 from claimtotals import costs, layout, library
-from claimtotals.numbers import SIGNED, UNSIGNED, places, row, whole, wholes
+from claimtotals.numbers import SIGNED, UNSIGNED, marks, places, row, whole, wholes
 from claimtotals.refusals import Refused
 
 # A law has so many pairs of terms; those past its order are 0.
@@ -67,21 +67,33 @@ class Job(NamedTuple):
 
 class Row(NamedTuple):
     """A line of the table, in units of one billionth: the exact chance of the total lies from low to high, and these are at most bound
-    apart."""
+    apart.
+
+    Where `exact` is True, low is the exact chance for the low end of the start, and high is that for its high end. That does not say that
+    the chance is known: `chance_is_exact` asks for equal ends too. In a curve that was computed, False stands only where low is below high,
+    and does not say that they are wrong."""
     total: int
     low: int
     high: int
     bound: int
+    exact: bool = False
+
+    @property
+    def chance_is_exact(self) -> bool:
+        """Whether the line is exact and its low and high are equal. They are the chance then, with no digit missing, if the true chance of
+        total 0 lies from the low to the high end of the start."""
+        return self.exact and self.low == self.high
 
     def digits(self, decimal_comma: bool = False) -> str:
-        """The digits of the chance that are true."""
+        """The digits of the chance that are true. There are nine after the point where low and high are equal."""
         return layout.digits(self.low, self.high, decimal_comma)
 
 
 @dataclass(frozen=True)
 class Curve:
-    """The chances of the totals 0 to the last, in units of one billionth: three tuples, by total. Its length is the number of totals;
-    iteration, and an index, give the rows.
+    """The chances of the totals 0 to the last, in units of one billionth, and which lines are exact, as `Row` has it: four tuples, by
+    total. A curve that is made without marks has False throughout, as they are not known. Its length is the number of totals; iteration,
+    and an index, give the rows.
 
     >>> from claimtotals import Job, curve
     >>> chances = curve(Job.of(1, [(0, 1)], (367879441, 367879442), 3), [1, 1])
@@ -93,17 +105,25 @@ class Curve:
     (1, 1)
     >>> chances.layers([(1, 3)])
     (LayerCost(attachment=1, limit=3, low=666437022, high=666437028),)
+
+    Here the division is by 1, 2 and 3 at the totals 1, 2 and 3, and only the last leaves a remainder:
+
+    >>> curve(Job.of(1, [(0, 1)], (1000, 1000), 3), [1])
+    Curve(low=(1000, 1000, 500, 166), high=(1000, 1000, 500, 167), bound=(0, 0, 1, 2), exact=(True, True, True, False))
     """
     low: tuple[int, ...]
     high: tuple[int, ...]
     bound: tuple[int, ...]
+    # None only where it is not given
+    exact: tuple[bool, ...] = None  # type: ignore[assignment]
 
     def __post_init__(self) -> None:
-        """Rows of whole numbers, equally long; else a ValueError."""
+        """Rows of whole numbers, and one of marks, equally long; else a ValueError."""
         for name in "low", "high", "bound":
             object.__setattr__(self, name, wholes(name, getattr(self, name), SIGNED))
-        if not len(self.low) == len(self.high) == len(self.bound):
-            raise ValueError(f"rows of {len(self.low)}, {len(self.high)} and {len(self.bound)} places")
+        object.__setattr__(self, "exact", (False,) * len(self.low) if self.exact is None else marks("exact", self.exact))
+        if not len(self.low) == len(self.high) == len(self.bound) == len(self.exact):
+            raise ValueError(f"rows of {len(self.low)}, {len(self.high)}, {len(self.bound)} and {len(self.exact)} places")
 
     def __len__(self) -> int:
         return len(self.low)
@@ -113,7 +133,7 @@ class Curve:
         total = whole("total", total, SIGNED)
         if not 0 <= total < len(self):
             raise IndexError(f"total {total} is not from 0 to {len(self) - 1}")
-        return Row(total, self.low[total], self.high[total], self.bound[total])
+        return Row(total, self.low[total], self.high[total], self.bound[total], self.exact[total])
 
     def __iter__(self) -> Iterator[Row]:
         return (self[total] for total in range(len(self)))
@@ -136,11 +156,12 @@ class Curve:
         return layout.table(self)
 
     def to_csv(self, decimal_comma: bool = False) -> str:
-        """The table for a spreadsheet, with chances as decimals. With `decimal_comma` they have a comma, and columns are parted by `;`."""
+        """The table for a spreadsheet, with chances as decimals, and Y or N for exact. With `decimal_comma` decimals have a comma, and
+        columns are parted by `;`."""
         return layout.csv(self, decimal_comma)
 
     def to_dicts(self) -> list[dict[str, int]]:
-        """A dict for each total, in units, as pandas.DataFrame takes them."""
+        """A dict for each total, in units and with True or False for exact, as pandas.DataFrame takes them."""
         return [row._asdict() for row in self]
 
 
@@ -160,15 +181,15 @@ def curve(job: Job, weights: Iterable[int]) -> Curve:
     """
     job, weights = Job(*job).checked(), wholes("weights", weights)
     table = row(weights, UNSIGNED)
-    low, high, bound = ((SIGNED * library.TOTALS)() for _ in range(3))
+    low, high, bound, mark = ((SIGNED * library.TOTALS)() for _ in range(4))
     work, place = (SIGNED * library.WORK)(), c_size_t()
     number = library.calls().claimtotals_curve(
         job.order, job.divisor, row(job.a, SIGNED), row(job.b, SIGNED), job.start_low, job.start_high, job.last, job.zero, table,
-        len(table), low, len(low), high, len(high), bound, len(bound), work, len(work), byref(place))
+        len(table), low, len(low), high, len(high), bound, len(bound), mark, len(mark), work, len(work), byref(place))
     if number:
         raise curve_refusal(job, weights, number, place.value)
     count = job.last + 1
-    return Curve(tuple(low[:count]), tuple(high[:count]), tuple(bound[:count]))
+    return Curve(*(tuple(found[:count]) for found in (low, high, bound, mark)))
 
 
 def level_total(call: str, low: Iterable[int], high: Iterable[int], level: int) -> int:

@@ -8,9 +8,9 @@ from claimtotals.library import UNIT
 from claimtotals.numbers import SIGNED, whole
 
 if TYPE_CHECKING:
-    from claimtotals.curves import Curve
+    from claimtotals.curves import Curve, Row
 
-HEADING = "TOTAL LOW HIGH BOUND"
+HEADING = "TOTAL LOW HIGH BOUND EXACT"
 
 
 def pointed(text: str, decimal_comma: bool) -> str:
@@ -53,18 +53,32 @@ def digits(low: int, high: int, decimal_comma: bool = False) -> str:
     return f"at most {pointed(high_text, decimal_comma)}"
 
 
+def letter(exact: bool) -> str:
+    return "Y" if exact else "N"
+
+
 def table(curve: Curve) -> str:
     """As the program writes it."""
-    return "".join(f"{line}\n" for line in [HEADING, *(" ".join(map(str, row)) for row in curve)])
+    lines = [HEADING, *(f"{row.total} {row.low} {row.high} {row.bound} {letter(row.exact)}" for row in curve)]
+    return "".join(f"{line}\n" for line in lines)
+
+
+def digits_line(row: Row, decimal_comma: bool) -> str:
+    """Where the chance itself is exact, if the start is true, its nine digits are all of it, and the word behind them says so. Zeros at the
+    end stay: they are true digits too, and a column of nine can be compared and added up."""
+    return f"{row.total} {row.digits(decimal_comma)}{' exact' if row.chance_is_exact else ''}"
 
 
 def digits_table(curve: Curve, decimal_comma: bool = False) -> str:
     """Each total with its true digits."""
-    return "".join(f"{line}\n" for line in ["TOTAL CHANCE", *(f"{row.total} {row.digits(decimal_comma)}" for row in curve)])
+    return "".join(f"{line}\n" for line in ["TOTAL CHANCE", *(digits_line(row, decimal_comma) for row in curve)])
+
+
+def csv_line(row: Row, decimal_comma: bool) -> tuple[str, ...]:
+    return str(row.total), *(decimal(units, decimal_comma) for units in (row.low, row.high, row.bound)), letter(row.exact)
 
 
 def csv(curve: Curve, decimal_comma: bool = False) -> str:
     """For a spreadsheet."""
-    lines = [("total", "low", "high", "bound")]
-    lines += [(str(row.total), *(decimal(units, decimal_comma) for units in row[1:])) for row in curve]
+    lines = [("total", "low", "high", "bound", "exact"), *(csv_line(row, decimal_comma) for row in curve)]
     return "".join((";" if decimal_comma else ",").join(line) + "\n" for line in lines)

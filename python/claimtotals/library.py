@@ -14,7 +14,7 @@ UNIT = 1_000_000_000
 # Rows of these numbers of places are always long enough.
 WEIGHTS = 500
 TOTALS = 501
-WORK = 9 * TOTALS
+WORK = 12 * TOTALS
 
 # Of a list of layers: so many places the arrays of the call have.
 LAYERS = 64
@@ -23,6 +23,10 @@ LAYERS = 64
 MOST_BYTES = 16_384
 
 NAME = "libclaimtotals.so"
+
+# The version whose calls are declared here, major and minor. Before 1.0 a minor version may change calls, and a call of another list of
+# parameters would take other rows for its own, without a word.
+MADE_FOR = "0.8"
 
 # Bytes that are only read: a Python bytes object goes as it is.
 BYTES = ctypes.c_char_p
@@ -48,7 +52,7 @@ CALLS = {
     ]),
     "claimtotals_curve": (c_uint64, [
         c_uint64, c_uint64, POINTER(c_int64), POINTER(c_int64), c_uint64, c_uint64, c_uint64, c_uint64, *row_types(c_uint64),
-        *row_types(c_int64), *row_types(c_int64), *row_types(c_int64), *row_types(c_int64), POINTER(c_size_t),
+        *row_types(c_int64), *row_types(c_int64), *row_types(c_int64), *row_types(c_int64), *row_types(c_int64), POINTER(c_size_t),
     ]),
     "claimtotals_read_sheet": (c_uint64, [
         BYTES, c_size_t, *row_types(c_uint64), POINTER(c_size_t), POINTER(c_uint64), POINTER(c_uint64), POINTER(c_int64), POINTER(c_int64),
@@ -65,16 +69,34 @@ CALLS = {
 }
 
 
+def another_version(path: pathlib.Path, has: str) -> OSError:
+    return OSError(f"{path} has {has}: it is another version's, and is to be built anew")
+
+
+def declare(library: ctypes.CDLL, path: pathlib.Path, name: str) -> None:
+    """Without this ctypes would take every number for a C int, and cut it. With it it cuts what has more than 64 bits, without a word:
+    `numbers` sees to that."""
+    try:
+        call = getattr(library, name)
+    except AttributeError:
+        raise another_version(path, f"no {name}") from None
+    call.restype, call.argtypes = CALLS[name]
+
+
+def version_of(library: ctypes.CDLL) -> str:
+    number = library.claimtotals_version()
+    return f"{number // 10_000}.{number // 100 % 100}.{number % 100}"
+
+
 def open_library(path: pathlib.Path, names: Iterable[str] = CALLS) -> ctypes.CDLL:
-    """The library at this path with these calls. Without the declarations ctypes would take every number for a C int, and cut it. With them
-    it cuts what has more than 64 bits, without a word: `numbers` sees to that."""
+    """The library at this path with these calls, after a look at its version."""
     library = ctypes.CDLL(str(path))
+    declare(library, path, "claimtotals_version")
+    found = version_of(library)
+    if found.rpartition(".")[0] != MADE_FOR:
+        raise another_version(path, f"version {found}, and not {MADE_FOR}")
     for name in names:
-        try:
-            call = getattr(library, name)
-        except AttributeError:
-            raise OSError(f"{path} has no {name}: it is another version's, and is to be built anew") from None
-        call.restype, call.argtypes = CALLS[name]
+        declare(library, path, name)
     return library
 
 
@@ -109,6 +131,5 @@ def answered(name: str, given: Sequence[int], *kinds: type) -> list[int]:
 
 
 def version() -> str:
-    """That of the library: 0.7.0."""
-    number = calls().claimtotals_version()
-    return f"{number // 10_000}.{number // 100 % 100}.{number % 100}"
+    """That of the library: 0.8.0."""
+    return version_of(calls())

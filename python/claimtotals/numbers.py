@@ -7,6 +7,7 @@ import operator
 from collections.abc import Mapping, Set
 from decimal import Decimal
 from fractions import Fraction
+from numbers import Integral, Number
 from typing import Iterable
 
 UNSIGNED = ctypes.c_uint64
@@ -50,6 +51,20 @@ def places(name: str, given: Iterable[object]) -> tuple[object, ...]:
 def wholes(name: str, numbers: Iterable[object], kind: type = UNSIGNED) -> tuple[int, ...]:
     """A row of such numbers."""
     return tuple(whole(f"{name}[{place}]", number, kind) for place, number in enumerate(places(name, numbers)))
+
+
+def is_mark(given: object) -> bool:
+    """True or False, which may be numpy's and are no numbers then, or the whole number 1 or 0, as the library has it."""
+    return (isinstance(given, Integral) or not isinstance(given, Number)) and given in (True, False)
+
+
+def marks(name: str, given: Iterable[object]) -> tuple[bool, ...]:
+    """A row of marks, as plain ones."""
+    found = places(name, given)
+    for place, mark in enumerate(found):
+        if not is_mark(mark):
+            raise ValueError(f"{name}[{place}]: {mark!r:.200} is no mark, True or False")
+    return tuple(map(bool, found))
 
 
 def row(numbers: tuple[int, ...], kind: type) -> ctypes.Array:

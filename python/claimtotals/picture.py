@@ -1,5 +1,5 @@
-"""A picture, as SVG, of a table. The upper panel has each total's low and high as the chances they stand for, the lower one the gap between
-them and its bound. The same rows and title always give the same bytes."""
+"""A picture, as SVG, of a table. The upper panel has each total's low and high as the chances they stand for, and dots at its foot where
+these are exact; the lower one has the gap between them and its bound. The same rows and title always give the same bytes."""
 from __future__ import annotations
 
 import math
@@ -23,8 +23,11 @@ TITLE_LINE, LETTERS = 24, 60
 UPPER, LOWER, BETWEEN, FOOT = 300, 150, 60, 56
 
 # The picture must be readable in black and white: what is light here stays lighter than what is dark.
-INK, FRAME, GRID, STEM, BAR = "#1a1a1a", "#555555", "#dddddd", "#b0b0b0", "#9fc0e0"
+PAPER, INK, FRAME, GRID, STEM, BAR = "#ffffff", "#1a1a1a", "#555555", "#dddddd", "#b0b0b0", "#9fc0e0"
 INTERVAL, BOUND = "#123f73", "#a63a00"
+
+# How high and, where there is room, how wide a dot is.
+DOT = 8
 
 # Up to this largest number the lower panel's axis is linear.
 MOST_LINEAR = 20
@@ -39,6 +42,30 @@ class Panel(NamedTuple):
     def y(self, units: int) -> float:
         """The place of a number."""
         return self.bottom - (self.bottom - self.top) * self.share(units)
+
+
+class Kind(NamedTuple):
+    """A kind of dot, which marks a total as exact: what it says, where the legend has it, and its colour."""
+    words: str
+    place: float
+    fill: str
+
+
+# Dark is for a chance that is exact, light for low and high where they are not equal.
+KINDS = DARK, LIGHT = Kind("exact", LEFT + 388, INTERVAL), Kind("each end exact for its own start", LEFT + 460, PAPER)
+
+
+def kind_of(row: Row) -> Kind | None:
+    """That of a row's dot, if it is exact."""
+    if not row.exact:
+        return None
+    return DARK if row.chance_is_exact else LIGHT
+
+
+def dot_kinds(rows: Sequence[Row]) -> list[Kind | None]:
+    """Those of all dots. Every table is exact at total 0, where it repeats the start: only a later such total is worth dots."""
+    kinds = [kind_of(row) for row in rows]
+    return kinds if any(kinds[1:]) else [None] * len(rows)
 
 
 # ---- scales
@@ -157,11 +184,11 @@ def beam(x: float, high: float, low: float, width: float) -> str:
     return f"M{left} {number(high)}H{right}M{number(x)} {number(high)}V{number(low)}M{left} {number(low)}H{right}"
 
 
-def interval(row: Row, x: float, width: float, panel: Panel) -> Iterator[str]:
+def interval(row: Row, kind: Kind | None, x: float, width: float, panel: Panel) -> Iterator[str]:
     """Low to high, and a thin line that leads there from zero."""
     high, low, zero = panel.y(row.high), panel.y(row.low), panel.y(0)
     yield line(x, zero, x, min(max(zero, high), low), STEM, min(1, width))
-    said = element("title", f"total {row.total}: low {row.low}, high {row.high}, bound {row.bound}")
+    said = element("title", f"total {row.total}: low {row.low}, high {row.high}, bound {row.bound}{f', {kind.words}' if kind else ''}")
     yield element("path", said, d=beam(x, high, low, width), fill="none", stroke=INTERVAL, stroke_width=min(2.4, width), class_="interval")
 
 
@@ -177,6 +204,27 @@ def bounds(rows: Sequence[Row], edges: Sequence[float], panel: Panel) -> str:
     steps = "".join(f"V{number(panel.y(row.bound))}H{number(edge)}" for row, edge in zip(rows, edges[1:]))
     return element("path", d=f"M{number(edges[0])} {number(panel.y(rows[0].bound))}{steps}", fill="none", stroke=BOUND, stroke_width=2,
                    class_="bound")
+
+
+def dot(kind: Kind, x: float, y: float, width: float, **attributes: str) -> str:
+    """Where many totals leave little width it keeps its height, so that it is seen."""
+    return element("rect", x=x - width / 2, y=y - DOT / 2, width=width, height=DOT, rx=width / 2, fill=kind.fill, stroke=INTERVAL,
+                   stroke_width=min(1.5, width / 4), **attributes)
+
+
+def exact_dots(kinds: Sequence[Kind | None], places: Sequence[float], width: float, y: float) -> Iterator[str]:
+    """Those of the totals that have one, all at one height, so that none of them covers an interval."""
+    for kind, x in zip(kinds, places):
+        if kind:
+            yield dot(kind, x, y, min(DOT, width), class_="exact")
+
+
+def exact_legend(kinds: Sequence[Kind | None], y: float) -> Iterator[str]:
+    """What the dots stand for that there are."""
+    for kind in KINDS:
+        if kind in kinds:
+            yield dot(kind, kind.place, y - 5, DOT)
+            yield text(kind.words, kind.place + 12, y)
 
 
 def upper_legend(rows: Sequence[Row], y: float) -> Iterator[str]:
@@ -199,9 +247,12 @@ def upper_panel(rows: Sequence[Row], panel: Panel, marks: Sequence[int], places:
     yield from upper_legend(rows, panel.top - 14)
     yield from upright_axis(panel, marks, chance_words(marks), "chance")
     yield line(LEFT, panel.y(0), RIGHT, panel.y(0), INK, 1)
-    for row, x in zip(rows, places):
-        yield from interval(row, x, width, panel)
+    kinds = dot_kinds(rows)
+    for row, kind, x in zip(rows, kinds, places):
+        yield from interval(row, kind, x, width, panel)
     yield frame(panel)
+    yield from exact_legend(kinds, panel.top - 14)
+    yield from exact_dots(kinds, places, width, panel.bottom + 14)
 
 
 def lower_panel(rows: Sequence[Row], panel: Panel, marks: Sequence[int], edges: Sequence[float], places: Sequence[float],
@@ -240,7 +291,7 @@ def picture(rows: Sequence[Row], title: str) -> str:
     height = lower.bottom + FOOT
     drawn = [
         element("title", escape(title, quote=False)),
-        element("rect", width=WIDTH, height=height, fill="#ffffff"),
+        element("rect", width=WIDTH, height=height, fill=PAPER),
         *(text(words, LEFT, 30 + TITLE_LINE * place, size=18, font_weight="bold") for place, words in enumerate(heading)),
         element("g", lines_of(upper_panel(rows, upper, chances, places, width)), class_="upper"),
         element("g", lines_of(lower_panel(rows, lower, gaps, edges, places, width)), class_="lower"),

@@ -17,8 +17,9 @@ from claimtotals.usage import Parser, Version, called
 COMMAND = "curve"
 
 HELP = """\
-The table of a sheet: for each yearly claim total a low and a high of its chance, in billionths, and a bound on the gap between them. It is
-proved that the exact chance lies from low to high."""
+The table of a sheet: for each yearly claim total a low and a high of its chance, in billionths, a bound on the gap between them, and Y or
+N. It is proved that the exact chance lies from low to high, and that with Y low is the exact chance for the low end of START, and high for
+its high end. N stands only where low is below high, and does not say that they are wrong."""
 
 EXAMPLES = """\
 example:
@@ -57,8 +58,8 @@ def refusal(text: bytes, sheet: bytes) -> Optional[Refused]:
 
 
 def columns(text: bytes) -> list[tuple[int, ...]]:
-    """Those of the program's table: total, low, high and bound."""
-    return list(zip(*(map(int, line.split()) for line in text.splitlines()[1:])))
+    """Those of the program's table that have numbers: total, low, high and bound."""
+    return list(zip(*(map(int, line.split()[:4]) for line in text.splitlines()[1:])))
 
 
 def run(path: str, program: Callable[[], pathlib.Path]) -> int:

@@ -12,13 +12,14 @@ P2 = Job.of(1, [(-1, 3)], (250000000, 250000000), 4)
 P3 = Job.of(2, [(-1, 0)], (1, 2), 1)
 
 TABLE = """\
-TOTAL LOW HIGH BOUND
-0 367879441 367879442 1
-1 183939720 183939721 2
-2 229924650 229924652 2
-3 99634015 99634016 2
+TOTAL LOW HIGH BOUND EXACT
+0 367879441 367879442 1 Y
+1 183939720 183939721 2 N
+2 229924650 229924652 2 N
+3 99634015 99634016 2 N
 """
-ROWS = [Row(0, 367879441, 367879442, 1), Row(1, 183939720, 183939721, 2), Row(2, 229924650, 229924652, 2), Row(3, 99634015, 99634016, 2)]
+ROWS = [Row(0, 367879441, 367879442, 1, True), Row(1, 183939720, 183939721, 2, False), Row(2, 229924650, 229924652, 2, False),
+        Row(3, 99634015, 99634016, 2, False)]
 
 
 class OfJob(unittest.TestCase):
@@ -38,7 +39,9 @@ class OfJob(unittest.TestCase):
 
 class Rule(unittest.TestCase):
     def check(self, job, low, high, bound, weights=(1,)):
-        self.assertEqual(curve(job, weights), Curve(tuple(low), tuple(high), tuple(bound)))
+        """Lows, highs and bounds; tests/test_exact.py has the marks."""
+        found = curve(job, weights)
+        self.assertEqual((found.low, found.high, found.bound), (tuple(low), tuple(high), tuple(bound)))
 
     def test_poisson(self):
         """P1."""
@@ -198,25 +201,25 @@ class OfCurve(unittest.TestCase):
 
     def test_text(self):
         self.assertEqual(self.curve.text(), TABLE)
-        self.assertEqual(curve(P3, (1,)).text(), "TOTAL LOW HIGH BOUND\n0 1 2 1\n1 -1 0 2\n")
+        self.assertEqual(curve(P3, (1,)).text(), "TOTAL LOW HIGH BOUND EXACT\n0 1 2 1 Y\n1 -1 0 2 N\n")
 
     def test_csv(self):
         self.assertEqual(self.curve.to_csv(), (
-            "total,low,high,bound\n"
-            "0,0.367879441,0.367879442,0.000000001\n"
-            "1,0.183939720,0.183939721,0.000000002\n"
-            "2,0.229924650,0.229924652,0.000000002\n"
-            "3,0.099634015,0.099634016,0.000000002\n"))
+            "total,low,high,bound,exact\n"
+            "0,0.367879441,0.367879442,0.000000001,Y\n"
+            "1,0.183939720,0.183939721,0.000000002,N\n"
+            "2,0.229924650,0.229924652,0.000000002,N\n"
+            "3,0.099634015,0.099634016,0.000000002,N\n"))
         self.assertEqual(curve(P3, (1,)).to_csv(decimal_comma=True), (
-            "total;low;high;bound\n"
-            "0;0,000000001;0,000000002;0,000000001\n"
-            "1;-0,000000001;0,000000000;0,000000002\n"))
+            "total;low;high;bound;exact\n"
+            "0;0,000000001;0,000000002;0,000000001;Y\n"
+            "1;-0,000000001;0,000000000;0,000000002;N\n"))
         great = curve(Job.of(1, [(0, 2)], (UNIT, UNIT), 1), (1,))
-        self.assertEqual(great.to_csv().splitlines()[2], "1,2.000000000,2.000000000,0.000000000")
+        self.assertEqual(great.to_csv().splitlines()[2], "1,2.000000000,2.000000000,0.000000000,Y")
 
     def test_dicts(self):
         self.assertEqual(curve(P3, (1,)).to_dicts(), [
-            {"total": 0, "low": 1, "high": 2, "bound": 1}, {"total": 1, "low": -1, "high": 0, "bound": 2}])
+            {"total": 0, "low": 1, "high": 2, "bound": 1, "exact": True}, {"total": 1, "low": -1, "high": 0, "bound": 2, "exact": False}])
 
     def test_digits(self):
         """Cut, not rounded."""

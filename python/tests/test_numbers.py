@@ -170,7 +170,7 @@ class Taken(unittest.TestCase):
                 self.assertEqual({type(number) for number in numbers}, {int})
                 found = curve(JOB._replace(order=one, divisor=one), [one])
                 self.assertEqual((found.low, found.high), (asked, asked))
-                self.assertEqual(found[three], (3, 0, 0, 1))
+                self.assertEqual(found[three], (3, 0, 0, 1, True))
                 self.assertIs(type(found[three].total), int)
                 self.assertEqual(sure([one, three], [three, three], three), 1)
                 self.assertEqual(possible([one, three], [three, three], three), 0)

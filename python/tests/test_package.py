@@ -83,8 +83,9 @@ class Types(unittest.TestCase):
     def test_fields(self):
         for kind in claimtotals.Job, claimtotals.Sheet, claimtotals.Row, claimtotals.Start, claimtotals.Law, claimtotals.LayerCost:
             self.assertEqual(tuple(typing.get_type_hints(kind)), kind._fields)
-        self.assertEqual(set(typing.get_type_hints(claimtotals.Law.terms.fget)), {"return"})
-        self.assertEqual(tuple(typing.get_type_hints(claimtotals.Curve)), ("low", "high", "bound"))
+        for reader in claimtotals.Law.terms, claimtotals.Row.chance_is_exact:
+            self.assertEqual(set(typing.get_type_hints(reader.fget)), {"return"})
+        self.assertEqual(tuple(typing.get_type_hints(claimtotals.Curve)), ("low", "high", "bound", "exact"))
 
     def test_comments(self):
         for name, function in functions():
@@ -100,7 +101,7 @@ TEXT = b"LAW 1 1\nTERM 0 1\nSTART 367879441 367879442\nLAST 3\nZERO 0\nSEVERITY 
 def binomial(divisor):
     """The paper's P2, with fractions over any divisor and as large a weight."""
     found = curve(Job.of(divisor, [(-divisor, 3 * divisor)], (250000000, 250000000), 4), [divisor])
-    return found.low, found.high, found.bound
+    return found.low, found.high, found.bound, found.exact
 
 
 def sheet(weight):
@@ -143,7 +144,7 @@ class Threads(unittest.TestCase):
 
     def test_at_once(self):
         row = (250000000, 500000000, 250000000, 0, 0)
-        asked = {binomial: lambda divisor: (row, row, (0, 1, 2, 1, 2) if divisor > 1 else (0, 0, 1, 1, 2)),
+        asked = {binomial: lambda divisor: (row, row, (0, 1, 2, 1, 2) if divisor > 1 else (0, 0, 1, 1, 2), (True,) * 5),
                  sheet: lambda number: (number, 7), word: lambda number: b"%dx" % number, level: lambda number: (number, 0),
                  costs: lambda number: [(number * 10 ** 9,) * 2, (10 ** 9,) * 2] * 32,
                  starts: lambda _: ((10 ** 9, 10 ** 9), (367879441, 367879442)),
