@@ -22,14 +22,15 @@ typedef struct {
     uint64_t order, divisor;
     int64_t a[4], b[4];
     uint64_t start_low, start_high, last, zero, weights[WEIGHTS + 1];
-    size_t count, low_length, high_length, bound_length, work_length;
+    size_t count, low_length, high_length, bound_length, mark_length, work_length;
 } Job;
 
 // what a call answers and leaves in its rows
 typedef struct {
     uint64_t number;
     size_t place;
-    int64_t low[CLAIMTOTALS_TOTALS], high[CLAIMTOTALS_TOTALS], bound[CLAIMTOTALS_TOTALS], work[CLAIMTOTALS_WORK];
+    int64_t low[CLAIMTOTALS_TOTALS], high[CLAIMTOTALS_TOTALS], bound[CLAIMTOTALS_TOTALS], mark[CLAIMTOTALS_TOTALS];
+    int64_t work[CLAIMTOTALS_WORK];
 } Answer;
 
 static Job job;
@@ -38,7 +39,7 @@ static Answer answers[COMPARED];
 static inline void ask(__typeof__(claimtotals_curve) *curve, Answer *answer) {
     answer->number = curve(job.order, job.divisor, job.a, job.b, job.start_low, job.start_high, job.last, job.zero, job.weights,
                            job.count, answer->low, job.low_length, answer->high, job.high_length, answer->bound, job.bound_length,
-                           answer->work, job.work_length, &answer->place);
+                           answer->mark, job.mark_length, answer->work, job.work_length, &answer->place);
 }
 
 static void call_proved(void) { ask(claimtotals_curve, &answers[PROVED]); }
@@ -228,6 +229,85 @@ static void compare_zeros(void) {
     if (answers[PROVED].bound[1] != 0 || answers[PROVED].bound[2] == 0) fail("the bounds after a divisor of 1 are others");
 }
 
+// The kinds of entries: without a mark, and with one, by their ends. Without a mark the ends are never equal.
+enum { UNMARKED, UNEQUAL, EQUAL, KINDS };
+
+static int kind_at(size_t x) {
+    const Answer *rows = &answers[PROVED];
+    if (rows->mark[x] == 0) return UNMARKED;
+    return rows->low[x] < rows->high[x] ? UNEQUAL : EQUAL;
+}
+
+// The kinds of entries that one_term's laws have used where no remainder was left, by the sign of the factor: there the mark depends on the
+// entry that is used, and on nothing else.
+static bool used[3][KINDS];
+
+static void meet_use(size_t x) {
+    const Answer *rows = &answers[PROVED];
+    const int64_t divisor = (int64_t)x, factor = job.a[0] * divisor + job.b[0];
+    const bool divided = factor * rows->low[x - 1] % divisor == 0 && factor * rows->high[x - 1] % divisor == 0;
+    if (divided) used[(factor > 0) - (factor < 0) + 1][kind_at(x - 1)] = true;
+}
+
+// Small starts. Halved once in each further row, the first three leave a remainder in row 1, 2 or 3, the next two leave none, and the last
+// leaves one in row 1 and none in the rows after it.
+static const uint64_t starts[][2] = {{1, 1}, {2, 2}, {4, 4}, {8, 8}, {8, 16}, {1, 8}};
+
+enum { STARTS = sizeof starts / sizeof *starts, MOST_TERM = 2, TERMS = 2 * MOST_TERM + 1 };
+
+static void small_start(size_t i) {
+    job.start_low = starts[i][0];
+    job.start_high = starts[i][1];
+    job.last = 12;
+}
+
+static void compare_uses(void) {
+    memset(job.weights, 0, sizeof job.weights);
+    job.weights[0] = 1;
+    for (size_t i = 0; i < NUMBERS * NUMBERS * STARTS; i++) {
+        one_term(numbers[i / STARTS / NUMBERS], numbers[i / STARTS % NUMBERS]);
+        small_start(i % STARTS);
+        if (compare() == 0)
+            for (size_t x = 1; x <= job.last; x++) meet_use(x);
+    }
+    for (size_t i = 0; i < 3 * KINDS; i++)
+        if (!used[i / KINDS][i % KINDS]) fail("a use of an entry was not met");
+}
+
+// A small law by its number: it has a first term and a last, and 0 between them. At order 1 these are one, and what is left of the number
+// is the weight of size 0.
+static void small_law(uint64_t order, size_t n) {
+    const size_t first = n % TERMS;
+    no_terms();
+    job.order = order;
+    job.divisor = 1;
+    job.a[0] = (int64_t)first - MOST_TERM;
+    job.a[order - 1] = (int64_t)(n / TERMS % TERMS) - MOST_TERM;
+    job.b[order - 1] = (int64_t)(n / TERMS / TERMS) - MOST_TERM;
+    job.zero = order == 1 ? first : 0;
+}
+
+// small laws of all orders with tables of two sizes
+static void compare_marks(void) {
+    enum { LAWS = TERMS * TERMS * TERMS };
+    job.count = 2;
+    for (uint64_t order = 1; order <= 4; order++) {
+        bool met[KINDS] = {false};
+        for (size_t i = 0; i < LAWS * STARTS; i++) {
+            small_law(order, i / STARTS);
+            small_start(i % STARTS);
+            for (uint64_t table = 1; table < 9; table++) {
+                job.weights[0] = table % 3;
+                job.weights[1] = table / 3;
+                if (compare() == 0)
+                    for (size_t x = 1; x <= job.last; x++) met[kind_at(x)] = true;
+            }
+        }
+        for (size_t kind = 0; kind < KINDS; kind++)
+            if (!met[kind]) fail("a kind of entry was not met");
+    }
+}
+
 // compares on the sheet's job with a change
 #define WITH(change)           \
     do {                       \
@@ -261,7 +341,8 @@ static void compare_all(void) {
     WITH(job.low_length = job.last);
     WITH(job.high_length = job.last);
     WITH(job.bound_length = job.last);
-    WITH(job.work_length = 9 * job.last + 8);
+    WITH(job.mark_length = job.last);
+    WITH(job.work_length = 12 * job.last + 11);
     // bounds at total 1 of U, as nothing is rounded, and of U + 1
     WITH((one_term(0, 1), job.start_low = 0, job.start_high = unit));
     WITH((one_term(0, 2), job.count = 2, job.weights[1] = 1, job.start_low = 0, job.start_high = unit));
@@ -284,6 +365,10 @@ static void compare_all(void) {
     job = given;
     compare_zeros();
     job = given;
+    compare_uses();
+    job = given;
+    compare_marks();
+    job = given;
 }
 
 static void read_job(const char *path) {
@@ -295,7 +380,7 @@ static void read_job(const char *path) {
     if (claimtotals_read_sheet(sheet, length, job.weights, WEIGHTS, &line, &job.order, &job.divisor, job.a, job.b, &job.start_low,
                                &job.start_high, &job.last, &job.zero, &job.count) != 0)
         fail("the sheet is refused");
-    job.low_length = job.high_length = job.bound_length = CLAIMTOTALS_TOTALS;
+    job.low_length = job.high_length = job.bound_length = job.mark_length = CLAIMTOTALS_TOTALS;
     job.work_length = CLAIMTOTALS_WORK;
 }
 

@@ -55,8 +55,8 @@ static char *put_refusal(char *at, uint64_t number, size_t place) {
     return at;
 }
 
-static char *put_table(char *at, size_t totals, const int64_t *low, const int64_t *high, const int64_t *bound) {
-    at = put_text(at, "TOTAL LOW HIGH BOUND\n");
+static char *put_table(char *at, size_t totals, const int64_t *low, const int64_t *high, const int64_t *bound, const int64_t *mark) {
+    at = put_text(at, "TOTAL LOW HIGH BOUND EXACT\n");
     for (size_t x = 0; x < totals; x++) {
         at = put_number(at, (int64_t)x);
         *at++ = ' ';
@@ -65,6 +65,8 @@ static char *put_table(char *at, size_t totals, const int64_t *low, const int64_
         at = put_number(at, high[x]);
         *at++ = ' ';
         at = put_number(at, bound[x]);
+        *at++ = ' ';
+        *at++ = mark[x] != 0 ? 'Y' : 'N';
         *at++ = '\n';
     }
     return at;
@@ -73,15 +75,15 @@ static char *put_table(char *at, size_t totals, const int64_t *low, const int64_
 // the text of a sheet, put at `at`
 static char *put_report(char *at, const uint8_t *sheet, size_t length) {
     uint64_t order, divisor, start_low, start_high, last, zero, weights[MOST_WEIGHTS];
-    int64_t a[4], b[4], low[MOST_TOTALS], high[MOST_TOTALS], bound[MOST_TOTALS], work[9 * MOST_TOTALS];
+    int64_t a[4], b[4], low[MOST_TOTALS], high[MOST_TOTALS], bound[MOST_TOTALS], mark[MOST_TOTALS], work[12 * MOST_TOTALS];
     size_t line, count, place;
     uint64_t number = plain_read_sheet(sheet, length, weights, MOST_WEIGHTS, &line, &order, &divisor, a, b, &start_low, &start_high, &last,
                                        &zero, &count);
     if (number != 0) return put_refusal(at, number, line);
     number = plain_curve(order, divisor, a, b, start_low, start_high, last, zero, weights, count, low, MOST_TOTALS, high, MOST_TOTALS,
-                         bound, MOST_TOTALS, work, 9 * MOST_TOTALS, &place);
+                         bound, MOST_TOTALS, mark, MOST_TOTALS, work, 12 * MOST_TOTALS, &place);
     if (number != 0) return put_refusal(at, number, place);
-    return put_table(at, last + 1, low, high, bound);
+    return put_table(at, last + 1, low, high, bound, mark);
 }
 
 int main(void) {

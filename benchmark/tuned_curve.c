@@ -19,7 +19,7 @@
 #define CURVE tuned_curve
 #endif
 
-// all in one function, so that what the smaller ones hand on stays in registers
+// all in one function but for the look at marks, so that what the smaller ones hand on stays in registers
 __typeof__(CURVE) CURVE __attribute__((flatten));
 
 #include "curve_call.h"
