@@ -1,5 +1,7 @@
 // What a job is made of. The numbers may have any content: the curve call refuses what lies outside the paper's limits.
 
+#![tactic(auto)]
+
 pub mod limits; // limits.rt: the limits, and their tests
 
 // The law of the number of claims: order k, divisor D, and the terms A_1..A_4 and B_1..B_4, of which those past k are zero.

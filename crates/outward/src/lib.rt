@@ -1,5 +1,7 @@
 // Division of signed sums, rounded outward: down for a low, up for a high.
 
+#![tactic(auto)]
+
 ghost use Rattle.std.specs.Prelude.{◌≡◌, ◌&&◌, ◌≤◌, ◌<◌, ◌^◌};
 ghost use Rattle.outward.specs.Division.{floor_div, ceil_div, divides};
 

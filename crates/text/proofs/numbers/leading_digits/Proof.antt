@@ -18,63 +18,63 @@ use Rattle.text.proofs.Leading.{passed_and_left, passed_next, none_left}
 use Rattle.text.proofs.numbers.leading_digits.Statement.{statement}
 use Rattle.text.proofs.numbers.leading_digits.Tie as tie
 
-abbrev invariant_loop : tie.invariant_loop
+abbrev invariant_loop : tie.invariant-loop-count
 invariant_loop s count₀ value₀ count value =
     (count ≤ length s) × (count ≤ 10) × (value < 10 ^ count) × (digits_of (leading_digits 10 s) ≡ passed_and_left 10 s count value)
 
-abbrev decreases_loop : tie.decreases_loop
+abbrev decreases_loop : tie.decreases-loop-count
 decreases_loop s count₀ value₀ count value = length s - count
 
-loop_holds : tie.Need-loop-init invariant_loop decreases_loop
+loop_holds : tie.Need-loop-count-init invariant_loop decreases_loop
 loop_holds c = (omega arith, omega arith, omega arith, rw (zero-add))
 
 tens : (i j : ℕ) → i ≤ j → 10 ^ i ≤ 10 ^ j
 tens i j h = pow-le-pow_right (lit< tt) h
 
 -- at a digit
-module _ (c : tie.Then2 invariant_loop decreases_loop) where
-  abbrev at : tie.At-loop invariant_loop decreases_loop
+module _ (c : tie.Then-is_digit invariant_loop decreases_loop) where
+  abbrev at : tie.At-loop-count invariant_loop decreases_loop
   at = c.before.before.before.before.before
 
   abbrev s : List ℕ
-  s = at.before.before.args.s.now
+  s = at.args.s.now
 
-  passed : is_digit (get_or s at.loop.count 0) ≡ true
-  passed = sym c.before.is_digit.ensures ∙ c.if2.true
+  passed : is_digit (get_or s at.loop-count.count 0) ≡ true
+  passed = sym c.is_digit.ensures ∙ c.if-is_digit.true
 
-  range : (zero_digit ≤ get_or s at.loop.count 0) × (get_or s at.loop.count 0 ≤ 0x39)
-  range = digit_range (get_or s at.loop.count 0) passed
+  range : (zero_digit ≤ get_or s at.loop-count.count 0) × (get_or s at.loop-count.count 0 ≤ 0x39)
+  range = digit_range (get_or s at.loop-count.count 0) passed
 
-  room : at.loop.count < 10
-  room = ltb-true at.loop.count 10 c.before.before.before.if1.true
+  room : at.loop-count.count < 10
+  room = ltb-true at.loop-count.count 10 c.if-count-lt10.true-raw
 
   -- at most 9 digits are passed where there is one more
-  small : at.loop.value < 10 ^ 9
-  small = omega (arith, tens at.loop.count 9 (omega (arith, room)))
+  small : at.loop-count.value < 10 ^ 9
+  small = omega (arith, tens at.loop-count.count 9 (omega (arith, room)))
 
-loop_again : tie.Need-loop-preserved invariant_loop decreases_loop
+loop_again : tie.Need-loop-count-preserved invariant_loop decreases_loop
 loop_again c =
-    let loop = (at c.before).loop in (
+    let loop = (at c.before).loop-count in (
       omega arith,
       omega (arith, room c.before),
       omega (arith, range c.before, ap (λ (n : ℕ). 10 ^ n) (add-one loop.count) ∙ pow-suc 10 loop.count),
-      loop.inv.3 ∙ passed_next 10 (s c.before) loop.count loop.value (room c.before) (omega arith) (passed c.before),
+      loop.invariant.3 ∙ passed_next 10 (s c.before) loop.count loop.value (room c.before) (omega arith) (passed c.before),
     )
 
 -- the byte is no digit, 10 are there, or the text ends
-stops : (at : tie.At-loop invariant_loop decreases_loop) → let loop = at.loop in let s = at.before.before.args.s.now in
+stops : (at : tie.At-loop-count invariant_loop decreases_loop) → let loop = at.loop-count in let s = at.args.s.now in
     (loop.count < 10 → loop.count < length s → is_digit (get_or s loop.count 0) ≡ false)
     → record { count = loop.count; value = loop.value } ≡ digits_of (leading_digits 10 s)
 stops at none =
-    let loop = at.loop in sym (loop.invariant.3 ∙ none_left 10 at.before.before.args.s.now loop.count loop.value none)
+    let loop = at.loop-count in sym (loop.invariant.3 ∙ none_left 10 at.args.s.now loop.count loop.value none)
 
-returns : tie.Need-returns invariant_loop decreases_loop
-returns c = stops c.before.before.before.before.before (λ h k. sym c.before.is_digit.ensures ∙ c.if2.false)
+returns : tie.Need-returns-else-is_digit invariant_loop decreases_loop
+returns c = stops c.before.before.before.before.before (λ h k. sym c.is_digit.ensures ∙ c.if-is_digit.false)
 
-returns_2 : tie.Need-returns-2 invariant_loop decreases_loop
-returns_2 c = stops c.before.before (λ h k. absurd (omega (arith, h, ltb-false c.before.before.loop.count 10 c.if1.false)))
+returns_2 : tie.Need-returns-else-count-lt10 invariant_loop decreases_loop
+returns_2 c = stops c.before.before (λ h k. absurd (omega (arith, h, ltb-false c.loop-count.count 10 c.if-count-lt10.false-raw)))
 
-returns_3 : tie.Need-returns-3 invariant_loop decreases_loop
+returns_3 : tie.Need-returns-after-loop-count invariant_loop decreases_loop
 returns_3 c = stops c.before (λ h k. absurd (omega (arith, k)))
 
 pub leading_digits_spec : {M : Type 1} → statement M
