@@ -1,1 +1,3 @@
 // No code: specs/ has the statements of demand 3, proofs/ their proofs.
+
+#![tactic(auto)]

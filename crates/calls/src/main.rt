@@ -1,6 +1,8 @@
 // Makes the calls that standard input asks for, and writes a line about each: its answer, and what it put into which places of the rows
 // lent to it. A record of the input is a number for the kind of call, and then what the module of that call reads.
 
+#![tactic(auto)]
+
 mod curve;
 mod input;
 mod laws;

@@ -19,7 +19,7 @@ use rows::total::Divisors;
 const WEIGHT_CAP: u64 = 1001;
 
 // What the checks found: their answer, and after an acceptance the divisors.
-#[derive(Drop)]
+#[derive(Clone, Copy)]
 pub struct Checked {
     pub answer: CurveAnswer,
     pub divisors: Divisors,

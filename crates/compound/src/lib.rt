@@ -1,5 +1,7 @@
 // The curve call: its checks, its answer, and what the lent rows hold on return.
 
+#![tactic(auto)]
+
 mod check;
 
 ghost use Rattle.std.specs.Prelude.{◌≡◌, not, cond, ◌≤◌, pos, length, replicate};
@@ -13,7 +15,7 @@ use rows::fill::{Stop, fill};
 use rows::layout::WORK_COLUMNS;
 
 // Why the curve call refuses.
-#[derive(Drop)]
+#[derive(Clone, Copy)]
 pub enum Reason {
     Order,
     Divisor,
@@ -30,7 +32,7 @@ pub enum Reason {
     Bound,
 }
 
-#[derive(Drop)]
+#[derive(Clone, Copy)]
 pub enum CurveAnswer {
     Accepted,
     // The reason and its place.

@@ -1,5 +1,7 @@
 // Reads a sheet from standard input, and writes the table of its curve, or its refusal, to standard output.
 
+#![tactic(auto)]
+
 ghost use Rattle.std.specs.Prelude.{◌≡◌, ◌≤◌, length, drop};
 ghost use Rattle.io.specs.Counts.{IsPrefixLen};
 ghost use Rattle.report.specs.Report.{report_text};

@@ -15,7 +15,7 @@ use super::term::{Factor, factor_at};
 
 // What is known of all entries from some total on, in every row: from `exact` on they are exact, and from `equal` on they have equal ends
 // too.
-#[derive(Drop)]
+#[derive(Clone, Copy)]
 pub struct Settled {
     pub exact: usize,
     pub equal: usize,
@@ -69,7 +69,7 @@ pub fn are_exact(
     mark: &[i64],
 ) -> bool
     requires factor_small { FactorSmall factor × (x ≤ most_last) × (total_weight weights.now ≤ 1000) }
-    requires x_in_bounds { (x ≤ length low.now) × (x ≤ length high.now) × (x ≤ length mark.now) }
+    requires rows_long { (x ≤ length low.now) × (x ≤ length high.now) × (x ≤ length mark.now) }
     requires settled_row { SettledRow settled x (number_in low.now) (number_in high.now) (exact_in mark.now) }
     ensures { result ≡ term_exact (line_factor factor weights.now) x weights.now
         (number_in low.now) (number_in high.now) (exact_in mark.now) }

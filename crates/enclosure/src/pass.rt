@@ -25,7 +25,7 @@ fn add_run(
 ) -> Entry
     requires factor_small { FactorSmall factor × RunRoom (upright factor run.negative) run.from run.to x weights.now
         (entry_of low.now high.now bound.now) }
-    requires x_in_bounds { (x ≤ length low.now) × (x ≤ length high.now) × (x ≤ length bound.now) }
+    requires rows_long { (x ≤ length low.now) × (x ≤ length high.now) × (x ≤ length bound.now) }
     requires entry_fits { EntryFits (plus sums (run_sums factor run.from run.to x weights.now (entry_of low.now high.now bound.now))) }
     ensures { result ≡ plus sums (run_sums factor run.from run.to x weights.now
         (entry_of low.now high.now bound.now)) }
@@ -58,7 +58,7 @@ pub fn add_term(
     bound: &[i64],
 ) -> Entry
     requires term_room { TermRoom sums factor x weights.now (entry_of low.now high.now bound.now) }
-    requires x_in_bounds { (x ≤ length low.now) × (x ≤ length high.now) × (x ≤ length bound.now) }
+    requires rows_long { (x ≤ length low.now) × (x ≤ length high.now) × (x ≤ length bound.now) }
     ensures { result ≡ term_sums sums (line_factor factor weights.now) x weights.now
         (entry_of low.now high.now bound.now) }
 {

@@ -11,7 +11,7 @@ use super::term::{Factor, line_at};
 use model::limits::UNIT;
 
 // Sums of entries raised by 2U, each times its factor, and the sum of the factors.
-#[derive(Drop)]
+#[derive(Clone, Copy)]
 pub struct Raised {
     pub low: u64,
     pub high: u64,
@@ -37,7 +37,7 @@ fn add_product(sum: u64, f: u64, z: i64) -> u64
 
 // The sums with `f` times the entry of total `z` added.
 fn add_entry(sums: Raised, f: u64, z: usize, low: &[i64], high: &[i64], bound: &[i64]) -> Raised
-    requires z_in_bounds { (z < length low.now) × (z < length high.now) × (z < length bound.now) }
+    requires rows_long { (z < length low.now) × (z < length high.now) × (z < length bound.now) }
     requires add_room { AddRoom sums f (entry_of low.now high.now bound.now z) }
     ensures { result ≡ raised_plus sums (raised_term f (entry_of low.now high.now bound.now z)) }
 {
@@ -62,7 +62,7 @@ fn raised_sums(
     bound: &[i64],
 ) -> Raised
     requires run_room { RunRoom factor from to x weights.now (entry_of low.now high.now bound.now) }
-    requires x_in_bounds { (x ≤ length low.now) × (x ≤ length high.now) × (x ≤ length bound.now) }
+    requires rows_long { (x ≤ length low.now) × (x ≤ length high.now) × (x ≤ length bound.now) }
     ensures { result ≡ raised_sums factor to (to - from) x weights.now
         (entry_of low.now high.now bound.now) }
 {
@@ -107,7 +107,7 @@ pub fn run_sums(
     bound: &[i64],
 ) -> Entry
     requires run_room { RunRoom factor from to x weights.now (entry_of low.now high.now bound.now) }
-    requires x_in_bounds { (x ≤ length low.now) × (x ≤ length high.now) × (x ≤ length bound.now) }
+    requires rows_long { (x ≤ length low.now) × (x ≤ length high.now) × (x ≤ length bound.now) }
     ensures { result ≡ run_sums factor from to x weights.now
         (entry_of low.now high.now bound.now) }
 {

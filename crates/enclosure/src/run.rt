@@ -9,7 +9,7 @@ ghost use Rattle.enclosure.specs.Run.{FactorSmall, FirstRun};
 use super::term::{Factor, line_at, negate};
 
 // The severities from `from` + 1 to `to`; `negative` says that their factors are zero or less.
-#[derive(Drop)]
+#[derive(Clone, Copy)]
 pub struct Run {
     pub from: usize,
     pub to: usize,

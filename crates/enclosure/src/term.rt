@@ -6,7 +6,7 @@ ghost use Rattle.enclosure.specs.Term.{line_at, factor_of};
 ghost use Rattle.enclosure.specs.Run.{FactorSmall, negative};
 
 // What multiplies the entry at x - y: (`constant` + `slope` times y) times w(y).
-#[derive(Drop)]
+#[derive(Clone, Copy)]
 pub struct Factor {
     pub constant: i64,
     pub slope: i64,

@@ -1,5 +1,7 @@
 // The faulty word: the word that refusal 24 of the sheet reader is about, as a part of the sheet.
 
+#![tactic(auto)]
+
 mod word;
 
 ghost use Rattle.std.specs.Prelude.{◌≡◌, ◌+◌};
@@ -12,7 +14,7 @@ use sheet::reader::read_text;
 use word::first_faulty;
 
 // A part of a sheet: so many bytes from `start` on, which is counted from 0.
-#[derive(Drop)]
+#[derive(Clone, Copy)]
 pub struct Part {
     pub start: usize,
     pub count: usize,

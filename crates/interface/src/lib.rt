@@ -1,6 +1,8 @@
 // The calls for C and other languages: numbers and rows of numbers alone. Each but the version's makes the call of its crate and hands the
 // answer over number by number; library/claimtotals.h says what each parameter is.
 
+#![tactic(auto)]
+
 pub mod curve;
 pub mod laws;
 pub mod layers;

@@ -1,5 +1,7 @@
 // A row of lows and a row of highs, total by total: the checks 31 and 33, which every call on such rows has.
 
+#![tactic(auto)]
+
 ghost use Rattle.std.specs.Prelude.{◌≡◌, length};
 ghost use Rattle.intervals.specs.Checks.{wrong_lengths, wrong_entry, first_wrong};
 

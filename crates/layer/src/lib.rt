@@ -1,5 +1,7 @@
 // Layer costs: the mean claim between an attachment and a limit, for each layer of a list, as a low and a high.
 
+#![tactic(auto)]
+
 mod check;
 mod cost;
 
@@ -13,7 +15,7 @@ use cost::write_costs;
 pub const MOST_LAYERS: usize = 64;
 
 // A list of layers: the first `count` places of both arrays. Layer i begins at the total `attachments[i]` and ends at `limits[i]`.
-#[derive(Drop)]
+#[derive(Clone, Copy)]
 pub struct LayerList {
     pub count: usize,
     pub attachments: [usize; MOST_LAYERS],
@@ -21,7 +23,7 @@ pub struct LayerList {
 }
 
 // Why the call refuses.
-#[derive(Drop)]
+#[derive(Clone, Copy)]
 pub enum Reason {
     // 31: rows empty, unequal in length or longer than 501.
     Rows,
@@ -35,7 +37,7 @@ pub enum Reason {
     Limit,
 }
 
-#[derive(Drop)]
+#[derive(Clone, Copy)]
 pub enum LayersAnswer {
     // The first places of the answer rows hold the costs.
     Accepted,

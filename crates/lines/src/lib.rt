@@ -1,5 +1,7 @@
 // One line of a sheet, a keyword and its numbers, and why a sheet is refused.
 
+#![tactic(auto)]
+
 pub mod keywords;
 pub mod line;
 
@@ -7,7 +9,7 @@ ghost use Rattle.std.specs.Prelude.{◌≡◌};
 ghost use Rattle.lines.specs.Reason.{number_of};
 
 // Why a sheet is refused.
-#[derive(Drop)]
+#[derive(Clone, Copy)]
 pub enum Reason {
     // 21: empty or over 16,384 bytes.
     Size,

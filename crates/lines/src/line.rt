@@ -13,36 +13,36 @@ use text::numbers::{number, number_line};
 use text::{Number, NumberLine};
 
 // The number of a line that has one, without a sign, and where the next line begins.
-#[derive(Drop)]
+#[derive(Clone, Copy)]
 pub enum OneRead {
     Number(u64, usize),
     Refused(Reason),
 }
 
 // The numbers of a line that has two, and where the next line begins.
-#[derive(Drop)]
+#[derive(Clone, Copy)]
 pub enum TwoRead {
     Numbers(i64, i64, usize),
     Refused(Reason),
 }
 
 // Where the numbers of a line begin, after the space that ends its keyword, and where its line end is.
-#[derive(Drop)]
+#[derive(Clone, Copy)]
 pub enum Head {
     Numbers(usize, usize),
     Refused(Reason),
 }
 
 // The last number of a line.
-#[derive(Drop)]
+#[derive(Clone, Copy)]
 pub enum Last {
     Value(i64),
     Refused(Reason),
 }
 
 fn read_keyword(rest: &[u8], keyword: &[u8]) -> Head
-    ensures result_value { head_of rest.now result ≡ after_keyword keyword.now rest.now }
-    ensures head_within { head_within (length rest.now) result }
+    ensures parsed { head_of rest.now result ≡ after_keyword keyword.now rest.now }
+    ensures within { head_within (length rest.now) result }
 {
     let end = until(rest, b'\n');
     if end == rest.len() {
@@ -86,8 +86,8 @@ pub fn natural(z: i64) -> u64
 
 // A line `KEYWORD n`.
 pub fn read_one(rest: &[u8], keyword: &[u8]) -> OneRead
-    ensures result_value { one_of rest.now result ≡ line false keyword.now 1 rest.now }
-    ensures result_in_bounds { after_one result ≤ length rest.now }
+    ensures parsed { one_of rest.now result ≡ line false keyword.now 1 rest.now }
+    ensures within { after_one result ≤ length rest.now }
 {
     match read_keyword(rest, keyword) {
         Head::Refused(reason) => OneRead::Refused(reason),
@@ -101,8 +101,8 @@ pub fn read_one(rest: &[u8], keyword: &[u8]) -> OneRead
 // A line `W n`, of which a sheet may have 500. A good one has 4 bytes or more and is read in one pass. Any other is read as every line is,
 // which finds its refusal.
 pub fn read_weight(rest: &[u8]) -> OneRead
-    ensures result_value { one_of rest.now result ≡ line false W 1 rest.now }
-    ensures result_in_bounds { after_one result ≤ length rest.now }
+    ensures parsed { one_of rest.now result ≡ line false W 1 rest.now }
+    ensures within { after_one result ≤ length rest.now }
 {
     if 3 < rest.len() && same(&rest[..2], b"W ") {
         if let NumberLine::Value(w, next) = number_line(&rest[2..]) {
@@ -114,8 +114,8 @@ pub fn read_weight(rest: &[u8]) -> OneRead
 
 // A line `KEYWORD n n`; `signs` says whether its numbers may have a sign.
 pub fn read_two(rest: &[u8], keyword: &[u8], signs: bool) -> TwoRead
-    ensures result_value { two_of rest.now result ≡ line signs keyword.now 2 rest.now }
-    ensures result_in_bounds { after_two result ≤ length rest.now }
+    ensures parsed { two_of rest.now result ≡ line signs keyword.now 2 rest.now }
+    ensures within { after_two result ≤ length rest.now }
 {
     match read_keyword(rest, keyword) {
         Head::Refused(reason) => TwoRead::Refused(reason),

@@ -5,7 +5,7 @@
 pub mod limits; // limits.rt: the limits, and their tests
 
 // The law of the number of claims: order k, divisor D, and the terms A_1..A_4 and B_1..B_4, of which those past k are zero.
-#[derive(Drop)]
+#[derive(Clone, Copy)]
 pub struct Law {
     pub order: u64,
     pub divisor: u64,
@@ -14,7 +14,7 @@ pub struct Law {
 }
 
 // The chance that the total is zero, in units: it lies from `low` to `high`.
-#[derive(Drop)]
+#[derive(Clone, Copy)]
 pub struct Start {
     pub low: u64,
     pub high: u64,
@@ -22,7 +22,7 @@ pub struct Start {
 
 // A job but for the row of its table: `last` is the last total, X, and `zero` the weight of severity 0, that of the claims which close at
 // nothing.
-#[derive(Drop)]
+#[derive(Clone, Copy)]
 pub struct Job {
     pub law: Law,
     pub start: Start,

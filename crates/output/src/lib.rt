@@ -1,6 +1,8 @@
 // Text put into a lent row, one piece after the other. Each function answers the place behind its piece. A byte that has no place in the
 // row is dropped, and the place answered is then one past the row's end.
 
+#![tactic(auto)]
+
 ghost use Rattle.std.specs.Prelude.{[], ◌∷◌, ◌≡◌, ◌<◌, nat_abs, length, drop};
 ghost use Rattle.text.specs.Bytes.{space};
 ghost use Rattle.text.specs.Numbers.{digits, decimal};
@@ -30,8 +32,8 @@ pub fn put_bytes(out: &mut [u8], at: usize, bytes: &[u8]) -> usize
 // Writes the digits of `n` into the last places of `bytes`, and answers the place of the first. 20 digits hold every number of 64 bits.
 fn fill_digits(bytes: &mut [u8], n: u64) -> usize
     requires { length bytes.old ≡ 20 }
-    ensures upper_bound { result < 20 }
-    ensures bytes_after { drop result bytes.new ≡ digits n }
+    ensures within { result < 20 }
+    ensures written { drop result bytes.new ≡ digits n }
 {
     let mut first = 19;
     let mut rest = n;

@@ -6,14 +6,14 @@ ghost use Rattle.std.specs.Prelude.{◌≡◌, ◌&&◌, ◌≤◌, ◌<◌, ◌
 ghost use Rattle.outward.specs.Division.{floor_div, ceil_div, divides};
 
 // The quotients of an interval's ends.
-#[derive(Drop)]
+#[derive(Clone, Copy)]
 pub struct Interval {
     pub low: i64,
     pub high: i64,
 }
 
 // An interval that was divided; `exact` says that neither division left a remainder.
-#[derive(Drop)]
+#[derive(Clone, Copy)]
 pub struct Quotient {
     pub ends: Interval,
     pub exact: bool,

@@ -1,5 +1,7 @@
 // A law of order 1 from the line that a publication has for it. The numbers may have any content: the calls refuse what the paper lists.
 
+#![tactic(auto)]
+
 ghost use Rattle.std.specs.Prelude.{◌≡◌, ◌||◌, ◌≤◌, ℤ, pos, nat_abs, ◌-ℤ◌, ◌≤ℤ◌};
 ghost use Rattle.model.specs.Answer.{accepted, refused as refused_by};
 ghost use Rattle.model.specs.Limits.{beyond};
@@ -10,7 +12,7 @@ use model::Law;
 use model::limits::{is_beyond, is_either_beyond};
 
 // Why a call refuses.
-#[derive(Drop)]
+#[derive(Clone, Copy)]
 pub enum Reason {
     // 51: the constant on the left is not 0.
     Constant,
@@ -20,7 +22,7 @@ pub enum Reason {
     Limits,
 }
 
-#[derive(Drop)]
+#[derive(Clone, Copy)]
 pub enum LawAnswer {
     Accepted,
     // The place of each reason is 0.
@@ -28,7 +30,7 @@ pub enum LawAnswer {
 }
 
 // The law, which is of order 1; after a refusal all its numbers are 0.
-#[derive(Drop)]
+#[derive(Clone, Copy)]
 pub struct LawMade {
     pub answer: LawAnswer,
     pub law: Law,

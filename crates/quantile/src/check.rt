@@ -9,7 +9,7 @@ use super::Reason;
 use intervals::{are_wrong_rows, first_wrong_entry};
 use model::limits::UNIT;
 
-#[derive(Drop)]
+#[derive(Clone, Copy)]
 pub enum Check {
     Passed,
     // The reason and its place.

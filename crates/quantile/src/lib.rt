@@ -1,5 +1,7 @@
 // Level queries: the total up to which the chances of a curve reach a level, surely (by the lows) or possibly (by the highs).
 
+#![tactic(auto)]
+
 mod check;
 mod search;
 
@@ -14,7 +16,7 @@ use check::{Check, checked};
 use search::quantile_of;
 
 // Why a query refuses.
-#[derive(Drop)]
+#[derive(Clone, Copy)]
 pub enum Reason {
     // 31: rows empty, unequal in length or longer than 501.
     Rows,
@@ -28,7 +30,7 @@ pub enum Reason {
     HighsShort,
 }
 
-#[derive(Drop)]
+#[derive(Clone, Copy)]
 pub enum QuantileAnswer {
     Total(usize),
     // The reason and its place: that of the first wrong entry, and 0 for the other reasons.

@@ -1,5 +1,7 @@
 // The program's text: from a sheet's bytes to the bytes that `curve` writes.
 
+#![tactic(auto)]
+
 ghost use Rattle.std.specs.Prelude.{◌≡◌, length};
 ghost use Rattle.algebra.specs.Slice.{written};
 ghost use Rattle.output.specs.Output.{output, Puts};

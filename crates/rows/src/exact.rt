@@ -26,7 +26,7 @@ fn are_terms_exact<'rows>(
     places: usize,
 ) -> bool
     requires law_limits { LawLimits law × Readable weights.now places x low.now high.now mark.now work.now }
-    requires a_value { (a.now ≡ law.a) × (b.now ≡ law.b) }
+    requires terms { (a.now ≡ law.a) × (b.now ≡ law.b) }
     requires settled_rows { SettledRows settled law.order x (stored_lows places low.now work.now) (stored_highs places high.now work.now)
         (stored_marks places mark.now work.now) }
     ensures { result ≡ used_zero law weights.now (stored_lows places low.now work.now)
@@ -61,8 +61,8 @@ pub fn is_exact<'rows>(
     places: usize,
     row: usize,
 ) -> bool
-    requires row_lt_order { (row < law.order) × LawLimits law × Readable weights.now places x low.now high.now mark.now work.now }
-    requires a_value { (a.now ≡ law.a) × (b.now ≡ law.b) }
+    requires row { (row < law.order) × LawLimits law × Readable weights.now places x low.now high.now mark.now work.now }
+    requires terms { (a.now ≡ law.a) × (b.now ≡ law.b) }
     requires settled_rows { SettledRows settled law.order x (stored_lows places low.now work.now) (stored_highs places high.now work.now)
         (stored_marks places mark.now work.now) }
     ensures { result ≡ (divided && used_at law weights.now (stored_lows places low.now work.now)

@@ -19,14 +19,14 @@ use enclosure::rule::{is_bound_too_large, is_out_of_range};
 use model::Job;
 
 // What the rows of one total show: a low or high out of range, a bound too large.
-#[derive(Drop)]
+#[derive(Clone, Copy)]
 pub struct Faults {
     pub range: bool,
     pub bound: bool,
 }
 
 // What comes of one total: its faults, and what is known of all entries once it is put.
-#[derive(Drop)]
+#[derive(Clone, Copy)]
 pub struct Found {
     pub faults: Faults,
     pub settled: Settled,
@@ -34,7 +34,7 @@ pub struct Found {
 
 // Where the run of the totals stops: at the first total that has a fault, or behind the last; `range` says that a low or high is out of
 // range there.
-#[derive(Drop)]
+#[derive(Clone, Copy)]
 pub struct Stop {
     pub total: usize,
     pub range: bool,
@@ -90,9 +90,9 @@ fn fill_total(
     work: &mut [i64],
     places: usize,
 ) -> Found
-    requires divisors_value { (divisors ≡ divisors_of job weights.now) × Limits job weights.now × (places ≤ length mark.old) }
+    requires limits { (divisors ≡ divisors_of job weights.now) × Limits job weights.now × (places ≤ length mark.old) }
     requires ready { Ready job.law weights.now places x (lent_rows low.old high.old bound.old work.old) }
-    requires a_value { (a.now ≡ job.law.a) × (b.now ≡ job.law.b) }
+    requires terms { (a.now ≡ job.law.a) × (b.now ≡ job.law.b) }
     requires settled_rows { SettledRows settled job.law.order x (stored_lows places low.old work.old) (stored_highs places high.old work.old)
         (stored_marks places mark.old work.old) }
     ensures faults { result.faults ≡ faults_below job.law.order (entry_at job weights.now (stored places
@@ -146,7 +146,7 @@ pub fn fill(
     mark: &mut [i64],
     work: &mut [i64],
 ) -> Stop
-    requires divisors_value { (divisors ≡ divisors_of job weights.now) × Limits job weights.now × (job.last + 1 ≤ length mark.old) }
+    requires limits { (divisors ≡ divisors_of job weights.now) × Limits job weights.now × (job.last + 1 ≤ length mark.old) }
     requires long_enough { LongEnough (job.last + 1) (lent_rows low.old high.old bound.old work.old) }
     ensures stop { result ≡ stop_of job weights.now }
     ensures rows { Filled job weights.now

@@ -15,7 +15,7 @@ use enclosure::{Divided, Entry};
 use model::{Job, Law, Start};
 
 // The divisors of a job: that of row 0 at total 1, D W - A w(0), and that of the further rows, W.
-#[derive(Drop)]
+#[derive(Clone, Copy)]
 pub struct Divisors {
     pub first: u64,
     pub further: u64,
@@ -56,7 +56,7 @@ fn sums_zero<'rows>(
     places: usize,
 ) -> Entry
     requires ready { Ready law weights.now places x (lent_rows low.now high.now bound.now work.now) }
-    requires a_value { (a.now ≡ law.a) × (b.now ≡ law.b) }
+    requires terms { (a.now ≡ law.a) × (b.now ≡ law.b) }
     ensures { result ≡ sums_zero law weights.now (stored places
         (lent_rows low.now high.now bound.now work.now)) x }
 {
@@ -110,9 +110,9 @@ pub fn entry_at<'rows>(
     places: usize,
     row: usize,
 ) -> Divided
-    requires row_lt_order { (row < job.law.order) × (divisors ≡ divisors_of job weights.now) × Limits job weights.now }
+    requires row { (row < job.law.order) × (divisors ≡ divisors_of job weights.now) × Limits job weights.now }
     requires ready { Ready job.law weights.now places x (lent_rows low.now high.now bound.now work.now) }
-    requires a_value { (a.now ≡ job.law.a) × (b.now ≡ job.law.b) }
+    requires terms { (a.now ≡ job.law.a) × (b.now ≡ job.law.b) }
     ensures entry { result.entry ≡ entry_at job weights.now (stored places
         (lent_rows low.now high.now bound.now work.now)) row x }
     ensures exact { result.exact ≡ divides_at job weights.now (stored places

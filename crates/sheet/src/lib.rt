@@ -1,5 +1,7 @@
 // The sheet reader: the numbers of a job and the weights of its table, from a sheet's bytes.
 
+#![tactic(auto)]
+
 pub mod reader;
 
 ghost use Rattle.std.specs.Prelude.{◌≡◌, ◌≤◌, length};
@@ -15,7 +17,7 @@ use reader::read_text;
 // The most bytes that a sheet may have.
 pub const MOST_BYTES: usize = 16_384;
 
-#[derive(Drop)]
+#[derive(Clone, Copy)]
 pub enum LineAnswer {
     Accepted,
     // The reason and the number of the line, from 1; 0 with `Size`.
@@ -23,7 +25,7 @@ pub enum LineAnswer {
 }
 
 // What a sheet says: the job and the count of its weights. After a refusal all numbers but those of the answer are 0.
-#[derive(Drop)]
+#[derive(Clone, Copy)]
 pub struct SheetRead {
     pub answer: LineAnswer,
     pub job: Job,

@@ -1,6 +1,8 @@
 // The start from the law's own name: from a mean, or from a chance and a number of trials. Every number is taken, and refused as the
 // paper lists it.
 
+#![tactic(auto)]
+
 mod scale; // an interval times a fraction
 mod series; // the exponential series
 
@@ -20,7 +22,7 @@ const EXP_MINUS_ONE_LOW: u64 = 367_879_441;
 const EXP_MINUS_ONE_HIGH: u64 = 367_879_442;
 
 // Why a call refuses.
-#[derive(Drop)]
+#[derive(Clone, Copy)]
 pub enum Reason {
     // 41: a lower number that is not 1 to 1,000, or a mean above 20.
     Fraction,
@@ -30,7 +32,7 @@ pub enum Reason {
     Trials,
 }
 
-#[derive(Drop)]
+#[derive(Clone, Copy)]
 pub enum StartAnswer {
     Given(Start),
     // The place of each reason is 0.

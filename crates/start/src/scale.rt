@@ -8,7 +8,7 @@ use model::limits::UNIT;
 use outward::Interval;
 
 // A fraction that lies from `low` over `divisor` to `high` over `divisor`.
-#[derive(Drop)]
+#[derive(Clone, Copy)]
 pub struct Factor {
     pub low: u64,
     pub high: u64,

@@ -1,5 +1,7 @@
 // The lines of the program's text.
 
+#![tactic(auto)]
+
 ghost use Rattle.std.specs.Prelude.{◌≡◌, ◌≤◌, length};
 ghost use Rattle.model.specs.Answer.{refused};
 ghost use Rattle.output.specs.Output.{output, Puts};
@@ -43,10 +45,10 @@ pub fn put_table(
     bound: &[i64],
     mark: &[i64],
 ) -> usize
-    requires totals_in_bounds { totals ≤ length low.now }
-    requires totals_in_bounds_2 { totals ≤ length high.now }
-    requires totals_in_bounds_3 { totals ≤ length bound.now }
-    requires totals_in_bounds_4 { totals ≤ length mark.now }
+    requires lows { totals ≤ length low.now }
+    requires highs { totals ≤ length high.now }
+    requires bounds { totals ≤ length bound.now }
+    requires marks { totals ≤ length mark.now }
     ensures { Puts (table_text totals low.now high.now bound.now mark.now)
         (output out.old 0) (output out.new result) }
 {

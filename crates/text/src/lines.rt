@@ -6,8 +6,8 @@ ghost use Rattle.text.specs.Lines.{before, after, line_start};
 
 // How many bytes of `s` stand before its first `b`: all of them where it has none.
 pub fn until(s: &[u8], b: u8) -> usize
-    ensures value { result ≡ length (before b s.now) }
-    ensures upper_bound { result ≤ length s.now }
+    ensures found { result ≡ length (before b s.now) }
+    ensures within { result ≤ length s.now }
 {
     for i in 0..s.len() {
         if s[i] == b {
@@ -19,8 +19,8 @@ pub fn until(s: &[u8], b: u8) -> usize
 
 // Where the bytes after the first `b` of `s` begin: at its end where it has none.
 pub fn past(s: &[u8], b: u8) -> usize
-    ensures s_value { drop result s.now ≡ after b s.now }
-    ensures upper_bound { result ≤ length s.now }
+    ensures rest { drop result s.now ≡ after b s.now }
+    ensures within { result ≤ length s.now }
 {
     let at = until(s, b);
     if at < s.len() {

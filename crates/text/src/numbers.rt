@@ -8,7 +8,7 @@ ghost use Rattle.text.specs.Leading.{leading_digits, digits_of, number_line, lin
 use super::{Number, NumberLine};
 
 // So many digits, and what they stand for.
-#[derive(Drop)]
+#[derive(Clone, Copy)]
 pub struct Digits {
     pub count: usize,
     pub value: u64,

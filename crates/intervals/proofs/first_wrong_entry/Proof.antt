@@ -10,25 +10,25 @@ use Rattle.intervals.specs.Checks.{wrong_at}
 use Rattle.intervals.proofs.first_wrong_entry.Statement.{statement}
 use Rattle.intervals.proofs.first_wrong_entry.Tie as tie
 
-abbrev invariant_loop : tie.invariant_loop
+abbrev invariant_loop : tie.invariant-loop-x
 invariant_loop low high x₀ x-end x = Searched (wrong_at low high) (length low) x
 
-abbrev decreases_loop : tie.decreases_loop
+abbrev decreases_loop : tie.decreases-loop-x
 decreases_loop low high x₀ x-end x = length low - x
 
 -- what the call says of the entry
-tested : (c : tie.After-is-wrong-entry invariant_loop decreases_loop) → let a = c.before.before.before.before.before.args in
-    c.is-wrong-entry.result ≡ wrong_at a.low.now a.high.now c.before.before.before.before.loop.x
+tested : (c : tie.After-is_wrong_entry invariant_loop decreases_loop) → let a = c.args in
+    c.is_wrong_entry.result ≡ wrong_at a.low.now a.high.now c.loop-x.x
 tested c =
-    rw (held w64 c.before.before.is-wrong-entry-arg.given refl, held w64 c.before.is-wrong-entry-arg2.given refl)
-    at c.is-wrong-entry.ensures
+    rw (held w64 c.is_wrong_entry-arg-1.given refl, held w64 c.is_wrong_entry-arg-in-loop-x-1.given refl)
+    at c.is_wrong_entry.ensures
 
-returns : tie.Need-returns invariant_loop decreases_loop
-returns c = sym (searched_found c.before.before.before.before.before.loop.invariant (sym (tested c.before) ∙ c.if1.true))
+returns : tie.Need-returns-then-is_wrong_entry invariant_loop decreases_loop
+returns c = sym (searched_found c.loop-x.invariant (sym (tested c.before) ∙ c.if-is_wrong_entry.true))
 
-loop_again : tie.Need-loop-preserved invariant_loop decreases_loop
+loop_again : tie.Need-loop-x-preserved invariant_loop decreases_loop
 loop_again c =
-    searched_next c.before.before.before.before.before.loop.invariant (search rules) (sym (tested c.before) ∙ c.if1.false)
+    searched_next c.loop-x.invariant (search rules) (sym (tested c.before) ∙ c.if-is_wrong_entry.false)
 
 pub first_wrong_entry_spec : {M : Type 1} → statement M
 first_wrong_entry_spec =
@@ -46,4 +46,4 @@ first_wrong_entry_spec =
     (λ c. search rules)
     (λ c. search rules)
     loop_again
-    (λ c. sym (searched_all c.before.loop.invariant (search rules))))
+    (λ c. sym (searched_all c.loop-x.invariant (search rules))))

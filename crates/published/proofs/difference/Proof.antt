@@ -74,24 +74,24 @@ difference_fits x y e =
     size_fits w64 (x -ℤ y) (omega (arith, size_sub x y))
 
 -- ---- the function
-test_is : (c : tie.After-is-either-beyond) → let a = c.before.args in
-    c.is-either-beyond.result ≡ (beyond 2000 a.beta-0 || beyond 2000 a.beta-1)
-test_is c = rw (to_z-of_z c.before.ranges.beta-0, to_z-of_z c.before.ranges.beta-1) at c.is-either-beyond.ensures
+test_is : (c : tie.After-is_either_beyond) → let a = c.args in
+    c.is_either_beyond.result ≡ (beyond 2000 a.beta-0 || beyond 2000 a.beta-1)
+test_is c = rw (to_z-of_z c.ranges.beta-0, to_z-of_z c.ranges.beta-1) at c.is_either_beyond.ensures
 
-returns : tie.Need-returns
+returns : tie.Need-returns-then-is_either_beyond
 returns c constant divisor =
-    let a = c.before.before.args in
+    let a = c.args in
     same_refusal constant divisor a.beta-1 (pos 1001) (a.beta-0 -ℤ a.beta-1) (or_second (beyond 1000 a.beta-1) true refl)
-    (term_outside a.beta-0 a.beta-1 (sym (test_is c.before) ∙ c.if1.true))
+    (term_outside a.beta-0 a.beta-1 (sym (test_is c.before) ∙ c.if-is_either_beyond.true))
 
-fits : (c : tie.Else1) → let a = c.before.before.args in SFits w64 (a.beta-0 -ℤ a.beta-1)
-fits c = let a = c.before.before.args in difference_fits a.beta-0 a.beta-1 (sym (test_is c.before) ∙ c.if1.false)
+fits : (c : tie.Else-is_either_beyond) → let a = c.args in SFits w64 (a.beta-0 -ℤ a.beta-1)
+fits c = let a = c.args in difference_fits a.beta-0 a.beta-1 (sym (test_is c.before) ∙ c.if-is_either_beyond.false)
 
-sub_result : tie.Need-overflow-sub-result
-sub_result c = let f = c.before.before.ranges in rw (to_z-of_z f.beta-0, to_z-of_z f.beta-1) (fits c)
+sub_result : tie.Need-overflow_sub-result
+sub_result c = let f = c.ranges in rw (to_z-of_z f.beta-0, to_z-of_z f.beta-1) (fits c)
 
-returns_2 : tie.Need-returns-2
-returns_2 c constant divisor = let f = c.before.before.ranges in rw (to_z-of_z f.beta-0, to_z-of_z f.beta-1, to_z-of_z (fits c)) refl
+returns_2 : tie.Need-returns
+returns_2 c constant divisor = let f = c.ranges in rw (to_z-of_z f.beta-0, to_z-of_z f.beta-1, to_z-of_z (fits c)) refl
 
 pub difference_spec : {M : Type 1} → statement M
 difference_spec = tie.close (tie.spec (λ c κs. search rules) returns sub_result returns_2)

@@ -36,40 +36,40 @@ conditions c = checks c.args.constant c.args.divisor c.args.a c.args.b
 constant_due : (c : tie.Start) → Due (conditions c) 0 (not (same_integer c.args.constant (pos 0)))
 constant_due c = due_first refl
 
-returns : tie.Need-returns
+returns : tie.Need-returns-then-constant-ne0
 returns c =
     let s = c.before.before in
     c.refused.ensures ∙ sym (law_is _ _ _ _ (due_refuses (constant_due s)
-    (ap not (test_no s.args.constant c.before.if1.true))))
+    (ap not (test_no s.args.constant c.if-constant-ne0.true))))
 
 -- 52
-coefficient_due : (c : tie.Else1) → Due (conditions c.before) 1 (same_integer c.before.args.divisor (pos 0))
-coefficient_due c = due_next (constant_due c.before) (ap not (test_yes c.before.ranges.constant c.if1.false)) refl
+coefficient_due : (c : tie.Else-constant-ne0) → Due (conditions c.before) 1 (same_integer c.args.divisor (pos 0))
+coefficient_due c = due_next (constant_due c.before) (ap not (test_yes c.ranges.constant c.if-constant-ne0.false)) refl
 
-returns_2 : tie.Need-returns-2
+returns_2 : tie.Need-returns-then-divisor-eq0
 returns_2 c =
     let s = c.before.before.before in
-    c.refused2.ensures
+    c.refused-then-divisor-eq0.ensures
     ∙ sym (law_is _ _ _ _ (due_refuses (coefficient_due c.before.before)
-    (test_yes s.ranges.divisor c.before.if2.true)))
+    (test_yes s.ranges.divisor c.if-divisor-eq0.true)))
 
 -- 53
-not_zero : (c : tie.Else2) → same_integer c.before.before.args.divisor (pos 0) ≡ false
-not_zero c = test_no c.before.before.args.divisor c.if2.false
+not_zero : (c : tie.Else-divisor-eq0) → same_integer c.args.divisor (pos 0) ≡ false
+not_zero c = test_no c.args.divisor c.if-divisor-eq0.false
 
-wrong_is : (c : tie.After-is-wrong-law) → let a = c.before.before.before.args in
-    c.is-wrong-law.result ≡ (beyond 1000 a.divisor || (beyond 1000 a.a || beyond 1000 a.b))
-wrong_is c = let f = c.before.before.before.ranges in
-    rw (to_z-of_z f.divisor, to_z-of_z f.a, to_z-of_z f.b) at c.is-wrong-law.ensures
+wrong_is : (c : tie.After-is_wrong_law) → let a = c.args in
+    c.is_wrong_law.result ≡ (beyond 1000 a.divisor || (beyond 1000 a.a || beyond 1000 a.b))
+wrong_is c = let f = c.ranges in
+    rw (to_z-of_z f.divisor, to_z-of_z f.a, to_z-of_z f.b) at c.is_wrong_law.ensures
 
-limits_due : (c : tie.After-is-wrong-law) → Due (conditions c.before.before.before) 2 c.is-wrong-law.result
+limits_due : (c : tie.After-is_wrong_law) → Due (conditions c.before.before.before) 2 c.is_wrong_law.result
 limits_due c =
-    let a = c.before.before.before.args in
+    let a = c.args in
     let other = not_zero c.before in
     due_next (coefficient_due c.before.before) other (wrong_is c ∙ limits_are a.divisor a.a a.b other)
 
-returns_3 : tie.Need-returns-3
-returns_3 c = c.refused3.ensures ∙ sym (law_is _ _ _ _ (due_refuses (limits_due c.before.before) c.before.if3.true))
+returns_3 : tie.Need-returns-then-is_wrong_law
+returns_3 c = c.refused-then-is_wrong_law.ensures ∙ sym (law_is _ _ _ _ (due_refuses (limits_due c.before.before) c.if-is_wrong_law.true))
 
 -- and where no condition holds, the law
 turned_requires : tie.Need-turned-requires
@@ -78,7 +78,7 @@ turned_requires c κs =
     let D = s.args.divisor in
     let A = s.args.a in
     let B = s.args.b in
-    let within = sym (wrong_is c.before) ∙ c.if3.false in
+    let within = sym (wrong_is c.before) ∙ c.if-is_wrong_law.false in
     let terms = or_right (beyond 1000 D) (beyond 1000 A || beyond 1000 B) within in
     rw (to_z-of_z s.ranges.divisor, to_z-of_z s.ranges.a, to_z-of_z s.ranges.b) (
       ltb-false 1000 (nat_abs D) (or_left (beyond 1000 D) (beyond 1000 A || beyond 1000 B) within),
@@ -86,11 +86,11 @@ turned_requires c κs =
       ltb-false 1000 (nat_abs B) (or_right (beyond 1000 A) (beyond 1000 B) terms),
     )
 
-returns_4 : tie.Need-returns-4
+returns_4 : tie.Need-returns
 returns_4 c =
-    let f = c.before.before.before.before.before.ranges in
+    let f = c.ranges in
     (rw (to_z-of_z f.divisor, to_z-of_z f.a, to_z-of_z f.b) at c.turned.ensures)
-    ∙ sym (law_is _ _ _ _ (due_accepts refl (limits_due c.before.before) c.before.if3.false))
+    ∙ sym (law_is _ _ _ _ (due_accepts refl (limits_due c.before.before) c.if-is_wrong_law.false))
 
 pub law_of_line_spec : {M : Type 1} → statement M
 law_of_line_spec =
