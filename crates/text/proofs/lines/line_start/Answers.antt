@@ -11,9 +11,9 @@ use Rattle.text.specs.Lines.{after_lines}
 use Rattle.text.proofs.Scan.{lines_next}
 use Rattle.text.proofs.lines.line_start.Goals as goal
 
-pub overflow_sub-result : goal.loop-preserved
-overflow_sub-result c =
-    let at = c.before in
+pub loop-preserved : goal.loop-preserved
+loop-preserved c =
+    let at = c.before.before.before in
     let n = at.args.n in
     let rest = at.loop.rest.now in
     let next = part_to_end rest c.past-next.result in (
@@ -23,7 +23,7 @@ overflow_sub-result c =
       rw (next, length-drop c.past-next.result rest) (omega (arith, at.loop.invariant.1)),
     )
 
-returns : goal.returns
+pub returns : goal.returns
 unfolding after_lines
 returns c =
     let at = c.before in

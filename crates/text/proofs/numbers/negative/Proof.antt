@@ -1,4 +1,5 @@
 -- By what `unsigned` finds: the number n that it gives is the value of the digits, and -n is its negative.
+use borrow.Author.Rules.{rules}
 use mathlib.Core.Path.{◌≡◌, sym, ap, ◌∙◌}
 use mathlib.Core.Bool.{true}
 use mathlib.Core.List.{List}
@@ -12,9 +13,10 @@ use mir.Val.{SFits, to_z, of_z}
 use Rattle.algebra.proofs.Size.{size_neg, size_fits, held}
 use Rattle.text.specs.Numbers.{is_numeral, value, found}
 use Rattle.text.proofs.Read.{numeral_some, negative_none, negative_zero, negative_value}
-use Rattle.text.proofs.numbers.negative.Goals as goal
+use Rattle.text.proofs.numbers.negative.Statement.{statement}
+use Rattle.text.proofs.numbers.negative.Tie as tie
 
-module _ (c : goal.In-Value) where
+module _ (c : tie.In-Value) where
   abbrev n : ℤ
   n = c.n-1.given.0.0
 
@@ -31,20 +33,23 @@ module _ (c : goal.In-Value) where
   fits : SFits w64 (neg_ℤ (pos (value word)))
   fits = size_fits w64 _ (omega (arith, size_neg (pos (value word)), ap mag is_value.1))
 
-pub returns-in-NotANumber : goal.returns-then-n-eq0
-returns-in-NotANumber c = sym (negative_zero (word c.before) (sym (ap (of_z w64) (is_value c.before).1) ∙ c.if-n-eq0.true))
+returns : tie.Need-returns-then-n-eq0
+returns c = sym (negative_zero (word c.before) (sym (ap (of_z w64) (is_value c.before).1) ∙ c.if-n-eq0.true))
 
-pub returns-else-n-eq0 : goal.overflow_sub-result
-returns-else-n-eq0 c = rw (is_negative c.before) (fits c.before)
+sub_t6 : tie.Need-overflow_sub-result
+sub_t6 c = rw (is_negative c.before) (fits c.before)
 
-returns_2 : goal.returns-in-NotANumber
+returns_2 : tie.Need-returns-in-NotANumber
 returns_2 c =
     let called = c.before.before in
     let digits = called.args.digits.now in
     sym (negative_none digits (sym called.unsigned.ensures ∙ ap found c.enum_told-1.given.1))
 
-returns_3 : goal.returns-else-n-eq0
+returns_3 : tie.Need-returns-else-n-eq0
 returns_3 c =
     let d = c.before in
     ap some (held w64 (rw (is_negative d) (fits d).sfits) (is_negative d))
     ∙ sym (negative_value (word d) (is_value d).0 (λ e. c.if-n-eq0.false (ap (of_z w64) (is_value d).1 ∙ e)))
+
+pub negative_spec : {M : Type 1} → statement M
+negative_spec = tie.close (tie.spec (λ c κs. search rules) (λ c. search rules) (λ c. search rules) returns sub_t6 returns_2 returns_3)
