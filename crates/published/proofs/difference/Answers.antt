@@ -1,15 +1,14 @@
 -- Where neither number is above 2,000 in size the difference fits. Else a term lies outside the limits: were the second number and the
 -- difference within them, the first would be at most 2,000. And all terms outside the limits are refused alike.
-use borrow.Author.Rules.{rules}
 use borrow.Author.Tests.{le-ltb, ltb-false}
 use mathlib.Core.Path.{◌≡◌, refl, sym, ◌∙◌, ap}
-use mathlib.Core.Bool.{Bool, true, false, true≢false, not, ◌||◌, cond}
+use mathlib.Core.Bool.{Bool, true, false, true≢false, ◌||◌, cond}
 use mathlib.Core.List.{[]}
 use Prim.Native.Nat.{◌+◌, ◌≤◌}
 use native.Mathlib.Omega.{arith}
 use lib.IntN.{ℤ, pos, neg_ℤ, nat_abs, ◌+ℤ◌, ◌-ℤ◌}
 use mir.Syntax.{w64}
-use mir.Val.{SFits}
+use mir.Val.{SFits, to_z, of_z}
 use mir.Facts.{to_z-of_z}
 use Rattle.algebra.proofs.Integer.{signed, split_add, split_neg}
 use Rattle.algebra.proofs.Or.{or_left, or_right, or_second}
@@ -19,8 +18,7 @@ use Rattle.model.proofs.Answer.{by_first}
 use Rattle.model.specs.Limits.{outside, beyond}
 use Rattle.published.specs.Call.{answered, turn, turned_law, wrong_law, checks, no_law, law_of_line}
 use Rattle.published.proofs.Accepted.{turn_size}
-use Rattle.published.proofs.difference.Statement.{statement}
-use Rattle.published.proofs.difference.Tie as tie
+use Rattle.published.proofs.difference.Goals as goal
 
 -- ---- a refusal that the terms do not change
 wrong_terms : (D A B : ℤ) → (beyond 1000 A || beyond 1000 B) ≡ true → wrong_law D A B ≡ true
@@ -63,9 +61,9 @@ term_outside x y e = by (beyond 1000 y || beyond 1000 (x -ℤ y)) refl
     by false k =
         let second = ltb-false 1000 (nat_abs y) (or_left (beyond 1000 y) (beyond 1000 (x -ℤ y)) k) in
         let less = ltb-false 1000 (nat_abs (x -ℤ y)) (or_right (beyond 1000 y) (beyond 1000 (x -ℤ y)) k) in
-        let IsFirst-passes = le-ltb 2000 (nat_abs x) (omega (arith, size_first x y)) in
+        let first-passes = le-ltb 2000 (nat_abs x) (omega (arith, size_first x y)) in
         let second-passes = le-ltb 2000 (nat_abs y) (omega arith) in
-        absurd (true≢false (rw (IsFirst-passes, second-passes) at (sym e)))
+        absurd (true≢false (rw (first-passes, second-passes) at (sym e)))
 
 difference_fits : (x y : ℤ) → (beyond 2000 x || beyond 2000 y) ≡ false → SFits w64 (x -ℤ y)
 difference_fits x y e =
@@ -74,24 +72,30 @@ difference_fits x y e =
     size_fits w64 (x -ℤ y) (omega (arith, size_sub x y))
 
 -- ---- the function
-test_is : (c : tie.After-is_either_beyond) → let a = c.args in
-    c.is_either_beyond.result ≡ (beyond 2000 a.beta-0 || beyond 2000 a.beta-1)
-test_is c = rw (to_z-of_z c.ranges.beta-0, to_z-of_z c.ranges.beta-1) at c.is_either_beyond.ensures
+-- the test at the numbers that the arguments' bits stand for
+test_is : {x y : ℤ} {t : Bool} → SFits w64 x → SFits w64 y → t ≡ (beyond 2000 (to_z w64 (of_z w64 x)) || beyond 2000 (to_z w64 (of_z w64 y)))
+    → t ≡ (beyond 2000 x || beyond 2000 y)
+test_is f g e = rw (to_z-of_z f, to_z-of_z g) at e
 
-returns : tie.Need-returns-then-is_either_beyond
-returns c constant divisor =
+-- where the test says no, the difference fits
+fits : {x y : ℤ} {t : Bool} → SFits w64 x → SFits w64 y → t ≡ (beyond 2000 (to_z w64 (of_z w64 x)) || beyond 2000 (to_z w64 (of_z w64 y)))
+    → t ≡ false → SFits w64 (x -ℤ y)
+fits {x} {y} f g e k = difference_fits x y (sym (test_is f g e) ∙ k)
+
+pub returns-then-is_either_beyond : goal.returns-then-is_either_beyond
+returns-then-is_either_beyond c constant divisor =
     let a = c.args in
-    same_refusal constant divisor a.beta-1 (pos 1001) (a.beta-0 -ℤ a.beta-1) (or_second (beyond 1000 a.beta-1) true refl)
-    (term_outside a.beta-0 a.beta-1 (sym (test_is c.before) ∙ c.if-is_either_beyond.true))
+    let f = c.ranges in
+    same_refusal constant divisor a.beta_1 (pos 1001) (a.beta_0 -ℤ a.beta_1) (or_second (beyond 1000 a.beta_1) true refl)
+    (term_outside a.beta_0 a.beta_1 (sym (test_is f.beta_0 f.beta_1 c.is_either_beyond.ensures) ∙ c.if-is_either_beyond.true))
 
-fits : (c : tie.Else-is_either_beyond) → let a = c.args in SFits w64 (a.beta-0 -ℤ a.beta-1)
-fits c = let a = c.args in difference_fits a.beta-0 a.beta-1 (sym (test_is c.before) ∙ c.if-is_either_beyond.false)
+pub overflow_sub-result : goal.overflow_sub-result
+overflow_sub-result c =
+    let f = c.ranges in
+    rw (to_z-of_z f.beta_0, to_z-of_z f.beta_1) (fits f.beta_0 f.beta_1 c.is_either_beyond.ensures c.if-is_either_beyond.false)
 
-sub_result : tie.Need-overflow_sub-result
-sub_result c = let f = c.ranges in rw (to_z-of_z f.beta-0, to_z-of_z f.beta-1) (fits c)
-
-returns_2 : tie.Need-returns
-returns_2 c constant divisor = let f = c.ranges in rw (to_z-of_z f.beta-0, to_z-of_z f.beta-1, to_z-of_z (fits c)) refl
-
-pub difference_spec : {M : Type 1} → statement M
-difference_spec = tie.close (tie.spec (λ c κs. search rules) returns sub_result returns_2)
+pub returns : goal.returns
+returns c constant divisor =
+    let f = c.ranges in
+    let g = fits f.beta_0 f.beta_1 c.is_either_beyond.ensures c.if-is_either_beyond.false in
+    rw (to_z-of_z f.beta_0, to_z-of_z f.beta_1, to_z-of_z g) refl
