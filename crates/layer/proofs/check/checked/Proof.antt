@@ -18,36 +18,36 @@ abbrev conditions : tie.Start → List Condition
 conditions c = let a = c.args in checks a.low.now a.high.now a.list a.low-places a.high-places
 
 -- 31, the rows
-rows_due : (c : tie.After-are-wrong-rows) → Due (conditions c.before) 0 c.are-wrong-rows.result
-rows_due c = due_first c.are-wrong-rows.ensures
+rows_due : (c : tie.After-are_wrong_rows) → Due (conditions c.before) 0 c.are_wrong_rows.result
+rows_due c = due_first c.are_wrong_rows.ensures
 
-returns : tie.Need-returns
-returns c = sym (due_refuses (rows_due c.before) c.if1.true)
+returns : tie.Need-returns-then-are_wrong_rows
+returns c = sym (due_refuses (rows_due c.before) c.if-are_wrong_rows.true)
 
 -- 33, the entries, with the place of the first that is wrong
-first_wrong_entry_requires : tie.Need-first-wrong-entry-requires
-first_wrong_entry_requires c κs = same_length _ _ (sym c.before.are-wrong-rows.ensures ∙ c.if1.false)
+first_wrong_entry_requires : tie.Need-first_wrong_entry-entry-requires
+first_wrong_entry_requires c κs = same_length _ _ (sym c.are_wrong_rows.ensures ∙ c.if-are_wrong_rows.false)
 
-entry_due : (c : tie.After-first-wrong-entry) → let s = c.before.before.before in
-    Due (conditions s) 1 (ltb c.first-wrong-entry.result (length s.args.low.now))
-entry_due c = due_next (rows_due c.before.before) c.before.if1.false (rw c.first-wrong-entry.ensures)
+entry_due : (c : tie.After-first_wrong_entry-entry) → let s = c.before.before.before in
+    Due (conditions s) 1 (ltb c.first_wrong_entry-entry.result (length s.args.low.now))
+entry_due c = due_next (rows_due c.before.before) c.if-are_wrong_rows.false (rw c.first_wrong_entry-entry.ensures)
 
-returns_2 : tie.Need-returns-2
-returns_2 c = rw c.before.first-wrong-entry.ensures (sym (due_refuses (entry_due c.before) (lt-ltb _ _ c.if2.true)))
+returns_2 : tie.Need-returns-then-entry-low
+returns_2 c = rw c.first_wrong_entry-entry.ensures (sym (due_refuses (entry_due c.before) (lt-ltb _ _ c.if-entry-low.true)))
 
 -- 61, the list's length
-count_due : (c : tie.After-is-wrong-count) → Due (conditions c.before.before.before.before.before) 2 c.is-wrong-count.result
-count_due c = due_next (entry_due c.before.before) (le-ltb _ _ c.before.if2.false) c.is-wrong-count.ensures
+count_due : (c : tie.After-is_wrong_count) → Due (conditions c.before.before.before.before.before) 2 c.is_wrong_count.result
+count_due c = due_next (entry_due c.before.before) (le-ltb _ _ c.if-entry-low.false) c.is_wrong_count.ensures
 
-returns_3 : tie.Need-returns-3
-returns_3 c = sym (due_refuses (count_due c.before) c.if3.true)
+returns_3 : tie.Need-returns-then-is_wrong_count
+returns_3 c = sym (due_refuses (count_due c.before) c.if-is_wrong_count.true)
 
 -- 62 and 63, layer by layer
-check_layers_requires : tie.Need-check-layers-requires
-check_layers_requires c κs = (counted _ _ _ (sym c.before.is-wrong-count.ensures ∙ c.if3.false)).most
+check_layers_requires : tie.Need-check_layers-requires
+check_layers_requires c κs = (counted _ _ _ (sym c.is_wrong_count.ensures ∙ c.if-is_wrong_count.false)).most
 
-returns_4 : tie.Need-returns-4
-returns_4 c = c.check-layers.ensures ∙ sym (due_leaves (count_due c.before.before) c.before.if3.false)
+returns_4 : tie.Need-returns
+returns_4 c = c.check_layers.ensures ∙ sym (due_leaves (count_due c.before.before) c.if-is_wrong_count.false)
 
 pub checked_spec : {M : Type 1} → statement M
 checked_spec =
