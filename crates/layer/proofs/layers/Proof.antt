@@ -11,28 +11,28 @@ use Rattle.layer.proofs.layers.Statement.{statement}
 use Rattle.layer.proofs.layers.Tie as tie
 
 abbrev answer : tie.Start → Answer
-answer c = let a = c.args in answer_of a.low.now a.high.now a.list a.answer-low.now a.answer-high.now
+answer c = let a = c.args in answer_of a.low.now a.high.now a.list a.answer_low-1.now a.answer_high-1.now
 
-returns : tie.Need-returns
+returns : tie.Need-returns-in-Refused
 returns c =
-    let told = c.enum_told.given in
-    let a = c.before.before.before.args in
-    rw told.1 (refuses a.low.now a.high.now a.list a.answer-low.now a.answer-high.now told.0.0 told.0.1.0
-    (sym (ap paper told.1) ∙ c.before.before.checked.ensures))
+    let told = c.enum_told-1.given in
+    let a = c.args in
+    rw told.1 (refuses a.low.now a.high.now a.list a.answer_low-1.now a.answer_high-1.now told.0.0 told.0.1.0
+    (sym (ap paper told.1) ∙ c.checked-answer.ensures))
 
 -- where no condition holds
-module _ (c : tie.After-enum-told2) where
+module _ (c : tie.In_default) where
   abbrev entry : tie.Start
   entry = c.before.before.before
 
   passes : accepted ≡ answer entry
-  passes = sym (ap paper c.enum-told2.given.1) ∙ c.before.before.checked.ensures
+  passes = sym (ap paper c.enum_told-in_default-1.given.1) ∙ c.checked-answer.ensures
 
   passed : let a = entry.args in
-      CallPassed a.low.now a.high.now a.list (length a.answer-low.now) (length a.answer-high.now)
+      CallPassed a.low.now a.high.now a.list (length a.answer_low-1.now) (length a.answer_high-1.now)
   passed = call_passed _ _ _ _ _ (sym passes)
 
-  low_writable : let a = entry.args in Writable a.high.now a.list (length a.answer-low.now)
+  low_writable : let a = entry.args in Writable a.high.now a.list (length a.answer_low-1.now)
   low_writable = record {
     summable = passed.rows.high_summable;
     count_most = passed.count.most;
@@ -40,7 +40,7 @@ module _ (c : tie.After-enum-told2) where
     fitting = rw (sym passed.rows.same) passed.fitting;
   }
 
-  high_writable : let a = entry.args in Writable a.low.now a.list (length a.answer-high.now)
+  high_writable : let a = entry.args in Writable a.low.now a.list (length a.answer_high-1.now)
   high_writable = record {
     summable = passed.rows.low_summable;
     count_most = passed.count.most;
@@ -48,16 +48,16 @@ module _ (c : tie.After-enum-told2) where
     fitting = passed.fitting;
   }
 
-write_costs_requires : tie.Need-write-costs-requires
+write_costs_requires : tie.Need-write_costs-requires
 write_costs_requires c κs = low_writable c.before
 
-write_costs_requires_2 : tie.Need-write-costs-requires-2
+write_costs_requires_2 : tie.Need-write_costs-requires-2
 write_costs_requires_2 c κs = high_writable c.before.before.before.before
 
-returns_2 : tie.Need-returns-2
+returns_2 : tie.Need-returns
 returns_2 c =
     let told = c.before.before.before.before.before.before in
-    rw (ap paper told.enum-told2.given.1, c.before.before.before.before.write-costs.ensures, c.before.write-costs2.ensures)
+    rw (ap paper told.enum_told-in_default-1.given.1, c.write_costs.ensures, c.write_costs-2.ensures)
     (accepts _ _ _ _ _ (passes told))
 
 pub layers_spec : {M : Type 1} → statement M

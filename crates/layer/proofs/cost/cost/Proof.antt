@@ -18,11 +18,11 @@ use Rattle.layer.proofs.Sizes.{product, saved_before, before_attachment, product
 use Rattle.layer.proofs.cost.cost.Statement.{statement}
 use Rattle.layer.proofs.cost.cost.Tie as tie
 
-abbrev invariant_loop : tie.invariant_loop
+abbrev invariant_loop : tie.invariant-loop-x
 invariant_loop row attachment limit width saved₀ x₀ saved x =
     (attachment ≤ x) × (x ≤ limit) × (saved ≡ of_z w64 (saved_before row attachment limit x))
 
-abbrev decreases_loop : tie.decreases_loop
+abbrev decreases_loop : tie.decreases-loop-x
 decreases_loop row attachment limit width saved₀ x₀ saved x = limit - x
 
 -- the products and sums of the call
@@ -39,100 +39,100 @@ module _ (c : tie.Start invariant_loop decreases_loop) where
   width_is : to_z w64 (c.args.limit - c.args.attachment) ≡ pos (c.args.limit - c.args.attachment)
   width_is = to_z_pos w64 (omega (arith, c.requires.1.within, c.requires.0.short))
 
-sum_below_requires : tie.Need-sum-below-requires invariant_loop decreases_loop
+sum_below_requires : tie.Need-sum_below-requires invariant_loop decreases_loop
 sum_below_requires c κs = (c.requires.0, omega (arith, c.requires.1.ordered, c.requires.1.within))
 
 -- before the loop
-begun : (c : tie.After-sum-below invariant_loop decreases_loop) → let s = c.before in
+begun : (c : tie.After-sum_below invariant_loop decreases_loop) → let s = c.before in
     to_z w64 (s.args.limit - s.args.attachment) *ℤ to_z w64 (of_z w64 c.sum_below.result) ≡ sums s s.args.attachment
 begun c =
     let s = c.before in
-    (λ i. width_is s i *ℤ held w64 c.sum_below.type-inv c.sum_below.ensures i)
+    (λ i. width_is s i *ℤ held w64 c.sum_below.type_inv c.sum_below.ensures i)
     ∙ before_attachment s.args.row.now s.args.attachment s.args.limit
 
-mul_saved : tie.Need-overflow-mul-saved invariant_loop decreases_loop
-mul_saved c = rw (begun c) (fits c.before c.before.args.attachment (omega (arith, c.before.requires.1.ordered)))
+mul_saved : tie.Need-overflow_mul-saved invariant_loop decreases_loop
+mul_saved c = rw (begun c) (fits c.before c.args.attachment (omega (arith, c.requires.1.ordered)))
 
-loop_holds : tie.Need-loop-init invariant_loop decreases_loop
-loop_holds c = (search rules, omega (arith, c.before.requires.1.ordered), ap (of_z w64) (begun c))
+loop_holds : tie.Need-loop-x-init invariant_loop decreases_loop
+loop_holds c = (search rules, omega (arith, c.requires.1.ordered), ap (of_z w64) (begun c))
 
-cast_saved : tie.Need-overflow-cast-saved invariant_loop decreases_loop
+cast_saved : tie.Need-overflow_cast-saved invariant_loop decreases_loop
 cast_saved c =
     let s = c.before.before.before in
-    size_fits w64 (pos (s.args.limit - c.before.loop.x)) (omega (arith, s.requires.1.within, s.requires.0.short))
+    size_fits w64 (pos (s.args.limit - c.loop-x.x)) (omega (arith, s.requires.1.within, s.requires.0.short))
 
 -- a turn
-module _ (c : tie.After-saved invariant_loop decreases_loop) where
+module _ (c : tie.After-saved-1 invariant_loop decreases_loop) where
   abbrev start : tie.Start invariant_loop decreases_loop
   start = c.before.before.before.before
 
   abbrev x : ℕ
-  x = c.before.before.loop.x
+  x = c.loop-x.x
 
   abbrev entry : ℤ
   entry = get_or start.args.row.now x (pos 0)
 
   left_is : to_z w64 (start.args.limit - x) ≡ pos (start.args.limit - x)
-  left_is = to_z_pos w64 (omega (arith, start.pre.1.within, start.pre.0.short))
+  left_is = to_z_pos w64 (omega (arith, start.requires.1.within, start.requires.0.short))
 
   product_is : to_z w64 (start.args.limit - x) *ℤ to_z w64 (of_z w64 entry) ≡ products start x
   product_is =
-      (λ i. left_is i *ℤ held w64 c.saved.given (refl {a = entry}) i)
-      ∙ ap (λ (n : ℕ). pos n *ℤ entry) (sym (saving_from _ _ x c.before.before.loop.invariant.0))
+      (λ i. left_is i *ℤ held w64 c.saved-1.given (refl {a = entry}) i)
+      ∙ ap (λ (n : ℕ). pos n *ℤ entry) (sym (saving_from _ _ x c.loop-x.invariant.0))
 
   product_held : SFits w64 (products start x)
-  product_held = product_fits start.args.row.now start.args.attachment start.args.limit start.pre.0 start.pre.1 x
+  product_held = product_fits start.args.row.now start.args.attachment start.args.limit start.requires.0 start.requires.1 x
       (search rules)
 
   -- the sum with the turn's product
-  summed : to_z w64 c.before.before.loop.saved
+  summed : to_z w64 c.loop-x.saved-bits
       +ℤ to_z w64 (of_z w64 (to_z w64 (start.args.limit - x) *ℤ to_z w64 (of_z w64 entry))) ≡ sums start (suc x)
   unfolding accumulate
   summed =
-      let loop = c.before.before.loop in
-      let so_far : to_z w64 loop.saved ≡ sums start x = ap (to_z w64) loop.invariant.2 ∙ to_z-of_z (fits start x loop.invariant.1) in
+      let loop = c.loop-x in
+      let so_far : to_z w64 loop.saved-1 ≡ sums start x = ap (to_z w64) loop.invariant.2 ∙ to_z-of_z (fits start x loop.invariant.1) in
       let next : to_z w64 (of_z w64 (to_z w64 (start.args.limit - x) *ℤ to_z w64 (of_z w64 entry))) ≡ products start x
       = ap (λ (z : ℤ). to_z w64 (of_z w64 z)) product_is ∙ to_z-of_z product_held in
       λ i. so_far i +ℤ next i
 
-mul_saved_3 : tie.Need-overflow-mul-saved-3 invariant_loop decreases_loop
+mul_saved_3 : tie.Need-overflow_mul-saved-in-loop-x invariant_loop decreases_loop
 mul_saved_3 c = rw (product_is c) (product_held c)
 
-add_saved : tie.Need-overflow-add-saved invariant_loop decreases_loop
+add_saved : tie.Need-overflow_add-saved invariant_loop decreases_loop
 add_saved c = rw (summed c) (fits (start c) (suc (x c)) (search rules))
 
-loop_again : tie.Need-loop-preserved invariant_loop decreases_loop
+loop_again : tie.Need-loop-x-preserved invariant_loop decreases_loop
 loop_again c = (search rules, search rules, rw (summed c, add-one))
 
 -- after the loop
-module _ (c : tie.After-loop invariant_loop decreases_loop) where
+module _ (c : tie.After-loop-x invariant_loop decreases_loop) where
   abbrev begin : tie.Start invariant_loop decreases_loop
   begin = c.before.before.before
 
-  saved_is : to_z w64 c.before.loop.saved ≡ sums begin begin.args.limit
+  saved_is : to_z w64 c.loop-x.saved-bits ≡ sums begin begin.args.limit
   saved_is =
-      let last : c.before.loop.x ≡ begin.args.limit = omega arith in
-      ap (to_z w64) (rw last at c.before.loop.invariant.2) ∙ to_z-of_z (fits begin begin.args.limit (omega arith))
+      let last : c.loop-x.x ≡ begin.args.limit = omega arith in
+      ap (to_z w64) (rw last at c.loop-x.invariant.2) ∙ to_z-of_z (fits begin begin.args.limit (omega arith))
 
   whole_held : SFits w64 (pos (begin.args.limit - begin.args.attachment) *ℤ pos 1000000000)
-  whole_held = whole_fits begin.args.row.now begin.args.attachment begin.args.limit begin.pre.0 begin.pre.1
+  whole_held = whole_fits begin.args.row.now begin.args.attachment begin.args.limit begin.requires.0 begin.requires.1
 
-mul_result : tie.Need-overflow-mul-result invariant_loop decreases_loop
+mul_result : tie.Need-overflow_mul-result invariant_loop decreases_loop
 mul_result c = rw (width_is (begin c)) (whole_held c)
 
-sub_result : tie.Need-overflow-sub-result invariant_loop decreases_loop
+sub_result : tie.Need-overflow_sub-result invariant_loop decreases_loop
 unfolding cost_by
 sub_result c =
     let s = begin c in
     rw (width_is s, to_z-of_z (whole_held c), saved_is c)
-    (cost_fits s.args.row.now s.args.attachment s.args.limit s.pre.0 s.pre.1)
+    (cost_fits s.args.row.now s.args.attachment s.args.limit s.requires.0 s.requires.1)
 
 returns : tie.Need-returns invariant_loop decreases_loop
 unfolding cost_by
 returns c =
     let s = begin c in
     rw (width_is s, to_z-of_z (whole_held c), saved_is c)
-    (to_z-of_z (cost_fits s.args.row.now s.args.attachment s.args.limit s.pre.0 s.pre.1))
+    (to_z-of_z (cost_fits s.args.row.now s.args.attachment s.args.limit s.requires.0 s.requires.1))
 
 pub cost_spec : {M : Type 1} → statement M
 cost_spec =
