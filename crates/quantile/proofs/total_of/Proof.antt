@@ -12,24 +12,24 @@ use Rattle.quantile.proofs.Joined.{not_accepted}
 use Rattle.quantile.proofs.total_of.Statement.{statement}
 use Rattle.quantile.proofs.total_of.Tie as tie
 
-total_is : (c : tie.After-quantile-of) → let a = c.before.args in c.quantile-of.result ≡ quantile_of a.row.now a.level
-total_is c = let level = c.before.ranges.level in simp to_z-of_z at c.quantile-of.ensures
+total_is : (c : tie.After-quantile_of-total) → let a = c.args in c.quantile_of-total.result ≡ quantile_of a.row.now a.level
+total_is c = let level = c.ranges.level in simp to_z-of_z at c.quantile_of-total.ensures
 
-returns : tie.Need-returns
+returns : tie.Need-returns-then-total-row
 unfolding first_refusal
 returns c =
-    let a = c.before.before.args in
+    let a = c.args in
     let total = total_is c.before in
-    let below = c.if1.true in
+    let below = c.if-total-row.true in
     rw (total, ne_eqb (quantile_of a.row.now a.level) (length a.row.now) (λ same. omega (arith, same, total, below)))
 
-returns_2 : tie.Need-returns-2
+returns_2 : tie.Need-returns
 unfolding first_refusal
 returns_2 c =
-    let a = c.before.before.args in
+    let a = c.args in
     let total = total_is c.before in
     let most = row_at_most a.row.now a.level in
-    let past = c.if1.false in
+    let past = c.if-total-row.false in
     rw (eq-eqb (quantile_of a.row.now a.level) (length a.row.now) (omega (arith, total, most, past)), not_accepted a.short 0)
 
 pub total_of_spec : {M : Type 1} → statement M

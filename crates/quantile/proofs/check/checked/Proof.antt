@@ -18,35 +18,35 @@ abbrev conditions : tie.Start → List Condition
 conditions c = checks c.args.low.now c.args.high.now c.args.level
 
 -- 31, the rows
-rows_due : (c : tie.After-are-wrong-rows) → Due (conditions c.before) 0 c.are-wrong-rows.result
-rows_due c = due_first c.are-wrong-rows.ensures
+rows_due : (c : tie.After-are_wrong_rows) → Due (conditions c.before) 0 c.are_wrong_rows.result
+rows_due c = due_first c.are_wrong_rows.ensures
 
-returns : tie.Need-returns
-returns c = sym (due_refuses (rows_due c.before) c.if1.true)
+returns : tie.Need-returns-then-are_wrong_rows
+returns c = sym (due_refuses (rows_due c.before) c.if-are_wrong_rows.true)
 
 -- 32, the level
-level_due : (c : tie.After-is-wrong-level) → Due (conditions c.before.before.before) 1 c.is-wrong-level.result
+level_due : (c : tie.After-is_wrong_level) → Due (conditions c.before.before.before) 1 c.is_wrong_level.result
 level_due c =
-    let level = c.before.before.before.ranges.level in
-    due_next (rows_due c.before.before) c.before.if1.false (simp to_z-of_z at c.is-wrong-level.ensures)
+    let level = c.ranges.level in
+    due_next (rows_due c.before.before) c.if-are_wrong_rows.false (simp to_z-of_z at c.is_wrong_level.ensures)
 
-returns_2 : tie.Need-returns-2
-returns_2 c = sym (due_refuses (level_due c.before) c.if2.true)
+returns_2 : tie.Need-returns-then-is_wrong_level
+returns_2 c = sym (due_refuses (level_due c.before) c.if-is_wrong_level.true)
 
 -- 33, the entries, with the place of the first that is wrong
-first_wrong_entry_requires : tie.Need-first-wrong-entry-requires
+first_wrong_entry_requires : tie.Need-first_wrong_entry-entry-requires
 first_wrong_entry_requires c κs = same_length _ _ ((level_due c.before).earlier 0 (lit< tt))
 
-entry_due : (c : tie.After-first-wrong-entry) → let s = c.before.before.before.before.before in
-    Due (conditions s) 2 (ltb c.first-wrong-entry.result (length s.args.low.now))
-entry_due c = due_next (level_due c.before.before) c.before.if2.false (rw c.first-wrong-entry.ensures)
+entry_due : (c : tie.After-first_wrong_entry-entry) → let s = c.before.before.before.before.before in
+    Due (conditions s) 2 (ltb c.first_wrong_entry-entry.result (length s.args.low.now))
+entry_due c = due_next (level_due c.before.before) c.if-is_wrong_level.false (rw c.first_wrong_entry-entry.ensures)
 
-returns_3 : tie.Need-returns-3
-returns_3 c = rw c.before.first-wrong-entry.ensures (sym (due_refuses (entry_due c.before) (lt-ltb _ _ c.if3.true)))
+returns_3 : tie.Need-returns-then-entry-low
+returns_3 c = rw c.first_wrong_entry-entry.ensures (sym (due_refuses (entry_due c.before) (lt-ltb _ _ c.if-entry-low.true)))
 
 -- and where no condition holds
-returns_4 : tie.Need-returns-4
-returns_4 c = sym (due_accepts refl (entry_due c.before) (le-ltb _ _ c.if3.false))
+returns_4 : tie.Need-returns
+returns_4 c = sym (due_accepts refl (entry_due c.before) (le-ltb _ _ c.if-entry-low.false))
 
 pub checked_spec : {M : Type 1} → statement M
 checked_spec =
