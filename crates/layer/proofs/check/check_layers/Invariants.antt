@@ -1,7 +1,6 @@
 -- The loop's invariant: no layer below i is at fault, so the answer is that of the layers from i on.
 use mathlib.Core.Path.{◌≡◌}
 use Prim.Native.Nat.{◌-◌, ◌≤◌}
-use native.Mathlib.Nat as NL
 use Rattle.model.specs.Answer.{first_refusal}
 use Rattle.layer.specs.Call.{layer_checks}
 use Rattle.layer.proofs.check.check_layers.Given as goal

@@ -48,15 +48,15 @@ pub returns-then-entry-low : goal.returns-then-entry-low
 returns-then-entry-low c =
     let a = c.args in
     let due = entry_due a.low.now a.high.now a.list a.low_places a.high_places c.first_wrong_entry-entry.result
-        c.are_wrong_rows.ensures c.if-are_wrong_rows.false c.first_wrong_entry-entry.ensures in
+    c.are_wrong_rows.ensures c.if-are_wrong_rows.false c.first_wrong_entry-entry.ensures in
     rw c.first_wrong_entry-entry.ensures (sym (due_refuses due (lt-ltb _ _ c.if-entry-low.true)))
 
 pub returns-then-is_wrong_count : goal.returns-then-is_wrong_count
 returns-then-is_wrong_count c =
     let a = c.args in
     let due = count_due a.low.now a.high.now a.list a.low_places a.high_places c.first_wrong_entry-entry.result
-        c.are_wrong_rows.ensures c.if-are_wrong_rows.false c.first_wrong_entry-entry.ensures c.if-entry-low.false
-        c.is_wrong_count.ensures in
+    c.are_wrong_rows.ensures c.if-are_wrong_rows.false c.first_wrong_entry-entry.ensures c.if-entry-low.false
+    c.is_wrong_count.ensures in
     sym (due_refuses due c.if-is_wrong_count.true)
 
 -- 62 and 63, layer by layer
@@ -67,6 +67,6 @@ pub returns : goal.returns
 returns c =
     let a = c.args in
     let due = count_due a.low.now a.high.now a.list a.low_places a.high_places c.first_wrong_entry-entry.result
-        c.are_wrong_rows.ensures c.if-are_wrong_rows.false c.first_wrong_entry-entry.ensures c.if-entry-low.false
-        c.is_wrong_count.ensures in
+    c.are_wrong_rows.ensures c.if-are_wrong_rows.false c.first_wrong_entry-entry.ensures c.if-entry-low.false
+    c.is_wrong_count.ensures in
     c.check_layers.ensures ∙ sym (due_leaves due c.if-is_wrong_count.false)

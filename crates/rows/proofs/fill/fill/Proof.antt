@@ -94,8 +94,8 @@ module _ (c : tie.After-work-1 invariant_loop decreases_loop) where
 
   abbrev filled : Lent
   filled =
-      let rows = call.fill_total-found.new.1.1.1.1.1.1.1 in
-      lent_rows rows.0 rows.1.0 rows.1.1.0 rows.1.1.1.1.0
+      let rows = call.fill_total-found.new in
+      lent_rows rows.low rows.high rows.bound rows.work
 
   abbrev here : Reached job weights (lent₀ loop) x (lent loop)
   here = loop.loop-x.invariant.1
@@ -104,13 +104,13 @@ module _ (c : tie.After-work-1 invariant_loop decreases_loop) where
   step = call.fill_total-found.ensures.1.0
 
   abbrev marked : List ℤ
-  marked = call.fill_total-found.new.1.1.1.1.1.1.1.1.1.1.0
+  marked = call.fill_total-found.new.mark
 
   marks_here : MarksReached job weights (start loop).args.mark.now x loop.loop-x.mark loop.loop-x.work
   marks_here = loop.loop-x.invariant.2
 
   marks_step : MarksAdvanced job weights (job.last + 1) x job.law.order (stored (job.last + 1) (lent loop)) loop.loop-x.mark
-      loop.loop-x.work marked filled.work-1
+      loop.loop-x.work marked filled.work
   marks_step = call.fill_total-found.ensures.1.1.0
 
   known_step : CurveKnown job weights call.fill_total-found.result.settled (x + 1)
@@ -129,7 +129,7 @@ module _ (c : tie.After-work-1 invariant_loop decreases_loop) where
 -- whether the total has a fault
 fault_is : (c : tie.After-either invariant_loop decreases_loop) → let w = c.before.before in
     c.either.result ≡ fault_at (job w).law.order (curve_rows (job w) (weights w)) (x w)
-fault_is c = c.either.ensures ∙ ap (λ (f : Faults). f.range || f.bound-1) (found c.before.before)
+fault_is c = c.either.ensures ∙ ap (λ (f : Faults). f.range || f.bound) (found c.before.before)
 
 -- the run stops at it
 returns : tie.Need-returns-then-either invariant_loop decreases_loop
@@ -192,20 +192,20 @@ fill_spec =
     loop_holds
     fill_total_requires
     (λ c κs. search rules)
-    (λ c. (kept c.before.before.before).low_1.same_length)
-    (λ c. (kept c.before.before.before).high_1.same_length)
-    (λ c. (kept c.before.before.before).bound-1.same_length)
+    (λ c. (kept c.before.before.before).low.same_length)
+    (λ c. (kept c.before.before.before).high.same_length)
+    (λ c. (kept c.before.before.before).bound.same_length)
     (λ c. let w = c.before.before.before in
     (marks_kept (job w) (weights w) _ (limits (start (loop w))) (lent₀ (loop w)) (x w) (lent (loop w)) (here w) _ (marks_here w) _ _
     (marks_step w) (x w + 1) (le_refl (x w + 1))).same_length)
-    (λ c. (kept c.before.before.before).work-1.same_length)
+    (λ c. (kept c.before.before.before).work.same_length)
     returns
     add_x
     loop_less
     loop_again
-    (λ c. c.loop-x.invariant.1.kept.low_1.same_length)
-    (λ c. c.loop-x.invariant.1.kept.high_1.same_length)
-    (λ c. c.loop-x.invariant.1.kept.bound-1.same_length)
+    (λ c. c.loop-x.invariant.1.kept.low.same_length)
+    (λ c. c.loop-x.invariant.1.kept.high.same_length)
+    (λ c. c.loop-x.invariant.1.kept.bound.same_length)
     (λ c. c.loop-x.invariant.2.kept.same_length)
-    (λ c. c.loop-x.invariant.1.kept.work-1.same_length)
+    (λ c. c.loop-x.invariant.1.kept.work.same_length)
     returns_2)

@@ -63,8 +63,8 @@ module _ (c : tie.At-loop-row invariant_loop decreases_loop) where
       SettledRows a.settled a.job.law.order a.x (stored_lows a.places c.loop-row.low c.loop-row.work)
       (stored_highs a.places c.loop-row.high c.loop-row.work) (stored_marks a.places c.loop-row.mark c.loop-row.work)
   known = settled_same start.args.job.law.order start.args.x start.args.settled _ _ _ _ _ _
-      (λ j z h l. ap (λ (e : Entry). e.low_1) (c.loop-row.invariant.2.earlier j z h l))
-      (λ j z h l. ap (λ (e : Entry). e.high_1) (c.loop-row.invariant.2.earlier j z h l))
+      (λ j z h l. ap (λ (e : Entry). e.low) (c.loop-row.invariant.2.earlier j z h l))
+      (λ j z h l. ap (λ (e : Entry). e.high) (c.loop-row.invariant.2.earlier j z h l))
       (λ j z h l. ap is_exact (c.loop-row.invariant.3.earlier j z h l)) start.requires.1.1.1
 
   mark_long : start.args.places ≤ length c.loop-row.mark
@@ -98,7 +98,7 @@ is_exact_requires c κs =
 
 with_mark_requires : tie.Need-with_mark-next-requires invariant_loop decreases_loop
 with_mark_requires c κs =
-    let turn = c.before.before.before.before.before.before.before.before.before.before.before in
+    let turn = c.before.before.before.before in
     (start turn.before).requires.1.0.basis.total_most
 
 put_requires : tie.Need-put-requires invariant_loop decreases_loop
@@ -130,8 +130,8 @@ module _ (c : tie.After-put invariant_loop decreases_loop) where
       (lent₀ (start loop)) put_rows
   next = advanced_put _ _ _ _ _ (start loop).requires.1.0 _ _ loop.loop-row.invariant.2 turn.loop-row-test.true _ entry.entry_at-made.ensures.0
 
-  work_long : work_places (start loop).args.places ≤ length put_rows.work-1
-  work_long = omega (arith, next.kept.work-1.same_length, (start loop).requires.1.0.long.work_long)
+  work_long : work_places (start loop).args.places ≤ length put_rows.work
+  work_long = omega (arith, next.kept.work.same_length, (start loop).requires.1.0.long.work_long)
 
   exact_rule : made.is_exact-exact.result ≡ exact_at (start loop).args.job (start loop).args.weights.now
       (stored (start loop).args.places (lent loop)) (stored_marks (start loop).args.places loop.loop-row.mark loop.loop-row.work) row
@@ -152,7 +152,7 @@ put_mark_requires c κs =
       s.requires.1.0.places_most,
       s.requires.1.0.total_below,
       mark_long (loop p),
-      rw (ap (λ (l : Lent). l.work-1) p.put.ensures) (work_long p),
+      rw (ap (λ (l : Lent). l.work) p.put.ensures) (work_long p),
     )
 
 -- the entry that was put, and its mark
@@ -187,9 +187,9 @@ loop_again c =
       c.with_entry-faults.ensures ∙ faults_more (rule s) a.x (row p) _ _ so_far.1 is-rule,
       rw marked.put_mark.ensures.1 both,
       subst₂ (λ (m w : List ℤ). MarksAdvanced a.job a.weights.now a.places a.x (row p + 1) (stored a.places (lent₀ s))
-          a.mark-1.now a.work-1.now m w) (sym marked.put_mark.ensures.0)
+          a.mark.now a.work.now m w) (sym marked.put_mark.ensures.0)
           (sym (marked.put_mark.ensures.1
-          ∙ ap (λ (l : Lent). work_put a.places l.work-1 (row p) a.x (made p).is_exact-exact.result) p.put.ensures)) marks,
+          ∙ ap (λ (l : Lent). work_put a.places l.work (row p) a.x (made p).is_exact-exact.result) p.put.ensures)) marks,
       p.with_mark-next.ensures
           ∙ known_more a.settled a.x (mark_rule s) (rule s) (row p) _ _ _ so_far.4 exact-now is-rule,
     )
@@ -216,9 +216,9 @@ fill_total_spec =
     add_row
     loop_less
     loop_again
-    (λ c. c.loop-row.invariant.2.kept.low_1.same_length)
-    (λ c. c.loop-row.invariant.2.kept.high_1.same_length)
-    (λ c. c.loop-row.invariant.2.kept.bound-1.same_length)
+    (λ c. c.loop-row.invariant.2.kept.low.same_length)
+    (λ c. c.loop-row.invariant.2.kept.high.same_length)
+    (λ c. c.loop-row.invariant.2.kept.bound.same_length)
     (λ c. c.loop-row.invariant.3.kept.same_length)
-    (λ c. c.loop-row.invariant.2.kept.work-1.same_length)
+    (λ c. c.loop-row.invariant.2.kept.work.same_length)
     returns)

@@ -1,7 +1,6 @@
 -- After i terms the sums are those of the definition's first i terms; the next turn adds the next term's.
 use borrow.Author.Rules.{rules}
 use mathlib.Core.Path.{◌≡◌, sym, ◌∙◌}
-use Prim.Native.Nat.{◌-◌}
 use Rattle.algebra.proofs.Sum.{accumulate_zero}
 use Rattle.enclosure.specs.Entry.{none, plus}
 use Rattle.rows.specs.Layout.{lent_rows, stored}

@@ -3,15 +3,13 @@ use mathlib.Core.Path.{◌≡◌, refl}
 use mathlib.Core.Bool.{true, false, true≢false}
 use mathlib.Core.List.{◌∷◌}
 use native.Mathlib.Omega.{arith}
-use borrow.Author.Rules.{rules}
 use borrow.Author.Tests.{ltb-true}
 use lib.IntN.{ℤ, pos, negsuc, nat_abs}
 use lib.Signed.{lt_z}
 use mir.Facts.{to_z-of_z}
 use Rattle.text.specs.Numbers.{minus, digits, decimal}
 use Rattle.output.proofs.Put.{◌then◌}
-use Rattle.output.proofs.put_decimal.Statement.{statement}
-use Rattle.output.proofs.put_decimal.Tie as tie
+use Rattle.output.proofs.put_decimal.Goals as goal
 
 below : (z : ℤ) → lt_z z (pos 0) ≡ true → decimal z ≡ minus ∷ digits (nat_abs z)
 unfolding decimal
@@ -23,36 +21,22 @@ unfolding decimal
 not_below (pos a) e = refl
 not_below (negsuc a) e = absurd (true≢false e)
 
-returns : tie.Need-returns
-returns c =
+pub returns-then-z-lt0 : goal.returns-then-z-lt0
+returns-then-z-lt0 c =
     let number = c.before.before in
     let sized = number.before in
     let sign = sized.before.before.before.before in
     let test = sign.before.before in
-    let f = test.before.before.ranges.z in
-    let negative = simp to_z-of_z at test.if1.true in
-    rw (below test.before.before.args.z negative)
-    (sign.put_byte.ensures then (rw (sized.size.ensures, to_z-of_z f) at number.put-digits.ensures))
+    let f = test.ranges.z in
+    let negative = simp to_z-of_z at test.if-z-lt0.true in
+    rw (below test.args.z negative)
+    (sign.put_byte-next.ensures then (rw (sized.size.ensures, to_z-of_z f) at number.put_digits.ensures))
 
-returns_2 : tie.Need-returns-2
-returns_2 c =
+pub returns : goal.returns
+returns c =
     let number = c.before.before in
     let sized = number.before in
     let test = sized.before.before in
-    let f = test.before.before.ranges.z in
-    let other = simp to_z-of_z at test.if1.false in
-    rw (not_below test.before.before.args.z other) (rw (sized.size2.ensures, to_z-of_z f) at number.put-digits2.ensures)
-
-pub put_decimal_spec : {M : Type 1} → statement M
-put_decimal_spec =
-    tie.close
-    (tie.spec
-    (λ c κs. search rules)
-    (λ c κs. search rules)
-    (λ c κs. search rules)
-    (λ c. search rules)
-    returns
-    (λ c κs. search rules)
-    (λ c κs. search rules)
-    (λ c. search rules)
-    returns_2)
+    let f = test.ranges.z in
+    let other = simp to_z-of_z at test.if-z-lt0.false in
+    rw (not_below test.args.z other) (rw (sized.size-2.ensures, to_z-of_z f) at number.put_digits-2.ensures)
