@@ -1,11 +1,6 @@
 -- By whether the row has a place for the byte.
-use borrow.Author.Rules.{rules}
 use Rattle.output.proofs.Put.{put_here, put_past}
 use Rattle.output.proofs.put_byte.Goals as goal
-
--- the byte is written within the row
-pub bounds-out-at : goal.bounds-out-at
-bounds-out-at c = search rules
 
 pub returns-then-at-out : goal.returns-then-at-out
 returns-then-at-out c = put_here _ _ _ c.if-at-out.true

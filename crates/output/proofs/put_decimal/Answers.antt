@@ -23,20 +23,11 @@ not_below (negsuc a) e = absurd (true≢false e)
 
 pub returns-then-z-lt0 : goal.returns-then-z-lt0
 returns-then-z-lt0 c =
-    let number = c.before.before in
-    let sized = number.before in
-    let sign = sized.before.before.before.before in
-    let test = sign.before.before in
-    let f = test.ranges.z in
-    let negative = simp to_z-of_z at test.if-z-lt0.true in
-    rw (below test.args.z negative)
-    (sign.put_byte-next.ensures then (rw (sized.size.ensures, to_z-of_z f) at number.put_digits.ensures))
+    let f = c.ranges.z in
+    rw (below c.args.z (simp to_z-of_z at c.if-z-lt0.true))
+    (c.put_byte-next.ensures then (rw (c.size.ensures, to_z-of_z f) at c.put_digits.ensures))
 
 pub returns : goal.returns
 returns c =
-    let number = c.before.before in
-    let sized = number.before in
-    let test = sized.before.before in
-    let f = test.ranges.z in
-    let other = simp to_z-of_z at test.if-z-lt0.false in
-    rw (not_below test.args.z other) (rw (sized.size-2.ensures, to_z-of_z f) at number.put_digits-2.ensures)
+    let f = c.ranges.z in
+    rw (not_below c.args.z (simp to_z-of_z at c.if-z-lt0.false)) (rw (c.size-2.ensures, to_z-of_z f) at c.put_digits-2.ensures)

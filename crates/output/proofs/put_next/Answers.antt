@@ -4,7 +4,4 @@ use Rattle.output.proofs.Put.{◌then◌}
 use Rattle.output.proofs.put_next.Goals as goal
 
 pub returns : goal.returns
-returns c =
-    let number = c.before.before in
-    let blank = number.before.before.before.before in
-    blank.put_byte-next.ensures then (rw (to_z-of_z blank.ranges.z) at number.put_decimal.ensures)
+returns c = c.put_byte-next.ensures then (rw (to_z-of_z c.ranges.z) at c.put_decimal.ensures)

@@ -5,14 +5,17 @@ use Rattle.quantile.specs.Call.{possible_query}
 use Rattle.quantile.proofs.Joined.{Told, told_passed, joined}
 use Rattle.quantile.proofs.possible.Goals as goal
 
-tells : (c : goal.After-checked) → let a = c.args in Told a.low.now a.high.now a.level c.checked.result
-tells c = let level = c.ranges.level in record { is = simp to_z-of_z at c.checked.ensures }
-
 pub returns : goal.returns
 unfolding possible_query
 returns c =
+    let a = c.args in
     let level = c.ranges.level in
-    simp to_z-of_z at c.query_by.ensures ∙ joined c.args.high.now 35 (tells c.before)
+    let told : Told a.low.now a.high.now a.level c.checked.result = record { is = simp to_z-of_z at c.checked.ensures } in
+    simp to_z-of_z at c.query_by.ensures ∙ joined a.high.now 35 told
 
 pub query_by-requires : goal.query_by-requires
-query_by-requires c passes = (told_passed (tells c) passes).high_summable
+query_by-requires c passes =
+    let a = c.args in
+    let level = c.ranges.level in
+    let told : Told a.low.now a.high.now a.level c.checked.result = record { is = simp to_z-of_z at c.checked.ensures } in
+    (told_passed told passes).high_summable
