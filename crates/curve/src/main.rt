@@ -2,17 +2,19 @@
 
 #![tactic(auto)]
 
-ghost use Rattle.std.specs.Prelude.{◌≡◌, ◌≤◌, length, take, drop};
+ghost use Rattle.std.specs.Prelude.{◌≡◌, ℕ, ◌≤◌, length, take, drop};
+ghost use Rattle.std.specs.Io.KnownBytes.{Appends, Consumes};
 ghost use Rattle.report.specs.Report.{report_text};
 ghost use Rattle.report.specs.Fits.{input_bytes};
 
 use sheet::MOST_BYTES;
 use std::io::{Read, Write};
 
-// Reads once into `rest`; the answer is the number of bytes, 0 where the input has ended or the read failed. The contracts of reading
-// speak of this number alone, since nothing is known of the bytes that the system gives.
+// Reads once into `rest`; the answer is the number of bytes, 0 where the input has ended or the read failed. Nothing is known of the bytes
+// that the system gives; of an input whose bytes are known, those that come into `rest` are its next.
 fn read_more<R: Read>(input: &mut R, rest: &mut [u8]) -> usize
-    ensures { result ≤ length rest.old }
+    ensures within { result ≤ length rest.old }
+    ensures bytes { Consumes (R.remaining input.old) (R.remaining input.new) (take result rest.new) }
 {
     match input.read(rest) {
         Ok(got) => got,
@@ -26,6 +28,7 @@ fn read_input<R: Read>(input: &mut R, sheet: &mut [u8]) -> usize
     requires { length sheet.old ≡ input_bytes }
     ensures within { result ≤ length sheet.new }
     ensures prefix { result ≡ length (take result sheet.new) }
+    ensures bytes { Consumes (R.remaining input.old) (R.remaining input.new) (take result sheet.new) }
 {
     let mut done = 0;
     while done < sheet.len() {
@@ -41,7 +44,8 @@ fn read_input<R: Read>(input: &mut R, sheet: &mut [u8]) -> usize
 // Writes once: what is left of the text of `sheet` from byte `done` on. The answer is the number of bytes, 0 where the write failed.
 fn write_more<W: Write>(output: &mut W, sheet: &[u8], done: usize, rest: &[u8]) -> usize
     requires { rest.now ≡ drop done (report_text sheet.now) }
-    ensures { result ≤ length rest.now }
+    ensures within { result ≤ length rest.now }
+    ensures bytes { Appends (W.contents output.old) (W.contents output.new) (take result rest.now) }
 {
     match output.write(rest) {
         Ok(put) => put,
@@ -49,9 +53,12 @@ fn write_more<W: Write>(output: &mut W, sheet: &[u8], done: usize, rest: &[u8]) 
     }
 }
 
-// Writes until all of the text is written or a write fails.
+// Writes until all of the text is written or a write fails. What is written is a front of the text.
 fn write_text<W: Write>(output: &mut W, sheet: &[u8], text: &[u8])
     requires { text.now ≡ report_text sheet.now }
+    ensures { (n : ℕ)
+        × Appends (W.contents output.old) (W.contents output.new)
+        (take n (report_text sheet.now)) }
 {
     let mut done = 0;
     while done < text.len() {
