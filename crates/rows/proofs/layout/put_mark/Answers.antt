@@ -16,7 +16,10 @@ pub returns-then-row-eq0 : goal.returns-then-row-eq0
 returns-then-row-eq0 c =
     let a = c.args in
     let number = held w64 c.mark_of-number.type_inv c.mark_of-number.ensures in
-    let first = sym c.if-row-eq0.true in record { mark = ap (λ (v : ℤ). set a.mark.now a.x v) number ∙ ap (λ (j : ℕ). mark_put a.mark.now j a.x a.exact) first; work = ap (λ (j : ℕ). work_put a.places a.work.now j a.x a.exact) first }
+    let first = sym c.if-row-eq0.true in record {
+      mark = ap (λ (v : ℤ). set a.mark.now a.x v) number ∙ ap (λ (j : ℕ). mark_put a.mark.now j a.x a.exact) first;
+      work = ap (λ (j : ℕ). work_put a.places a.work.now j a.x a.exact) first;
+    }
 
 inside : (c : goal.After-marks_at) → let s = c.before.before.before in
     (c.marks_at.result + s.args.x < 6012) × (c.marks_at.result + s.args.x < length s.args.work.now)

@@ -23,7 +23,11 @@ pub add_row-sums-requires : goal.add_row-sums-requires
 add_row-sums-requires c =
     let loop = c.before.before in
     let s = loop.before.before.before in
-    let i = loop.loop-i.i in record { reachable = reachable _ _ _ _ _ s.requires.ready i (search rules); term_room = rw (loop.loop-i.invariant.1, c.term_factor-factor.ensures, s.requires.terms.0, s.requires.terms.1) (term_room _ _ _ _ s.requires.ready.basis i (search rules)) }
+    let i = loop.loop-i.i in record {
+      reachable = reachable _ _ _ _ _ s.requires.ready i (search rules);
+      term_room = rw (loop.loop-i.invariant.1, c.term_factor-factor.ensures, s.requires.terms.0, s.requires.terms.1)
+          (term_room _ _ _ _ s.requires.ready.basis i (search rules));
+    }
 
 pub loop-i-preserved : goal.loop-i-preserved
 loop-i-preserved c =
