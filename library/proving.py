@@ -30,6 +30,9 @@ BUILT_PROGRAM, BUILT_LIBRARY = ROOT / "crates/curve/out/curve", ROOT / "crates/i
 # The program's stored case: what it is given, and what it must write.
 CASE, ANSWER = ROOT / "crates/curve/stdin", ROOT / "crates/curve/stdout"
 
+# What is built runs on every processor of the kind x86-64, and not on newer ones alone: an archive does not look at the processor.
+FLAGS = ["--cpu", "x86-64"]
+
 # All that the last command of the kit said, and what the program wrote of its case.
 LOG, WRITTEN = TARGET / "log", TARGET / "curve.stdout"
 
@@ -134,8 +137,8 @@ def place_of(lines, crate):
 
 def prove(progress, verb, crate, **streams):
     """Runs a command of the kit in the crate's folder."""
-    lines = []
-    with open(LOG, "w") as log, subprocess.Popen(["rt", verb], cwd=ROOT / "crates" / crate, text=True, errors="replace", **streams) as run:
+    lines, command, folder = [], ["rt", verb, *FLAGS], ROOT / "crates" / crate
+    with open(LOG, "w") as log, subprocess.Popen(command, cwd=folder, text=True, errors="replace", **streams) as run:
         for line in run.stderr or run.stdout:
             log.write(line)
             lines.append(line.rstrip("\n"))

@@ -22,8 +22,8 @@ STAND_IN = """\
 top=$(cd ../.. && pwd)
 echo "$*" >>"$top/called"
 case "$PWD $*" in
-*"/crates/curve run") crates="{program}" made=curve from=bin/curve; exec 3>&1 1>&2 ;;
-*"/crates/interface lib") crates="{library}" made=libinterface.a from=library/libclaimtotals.a ;;
+*"/crates/curve run --cpu x86-64") crates="{program}" made=curve from=bin/curve; exec 3>&1 1>&2 ;;
+*"/crates/interface lib --cpu x86-64") crates="{library}" made=libinterface.a from=library/libclaimtotals.a ;;
 *) echo "rt: no such call: $* in $PWD" >&2; exit 2 ;;
 esac
 [ "$FAILS" != "the call" ] || {{ echo "rt: $top/crates.txt: this line is none" >&2; exit 2; }}
