@@ -8,7 +8,8 @@ use Rattle.text.specs.Numbers.{digits_within, digits}
 use Rattle.output.proofs.fill_digits.Given as goal
 
 abbrev pub invariant-loop-rest : goal.invariant-loop-rest
-invariant-loop-rest l = (l.first < 20) × (length l.bytes ≡ length l.initial.bytes) × (l.rest < 10 ^ suc l.first) × (digits_within l.first l.rest ++ drop (suc l.first) l.bytes ≡ digits l.n)
+invariant-loop-rest l = (l.first < 20) × (length l.bytes ≡ length l.initial.bytes) × (l.rest < 10 ^ suc l.first)
+    × (digits_within l.first l.rest ++ drop (suc l.first) l.bytes ≡ digits l.n)
 
 abbrev pub decreases-loop-rest : goal.decreases-loop-rest
 decreases-loop-rest l = l.rest

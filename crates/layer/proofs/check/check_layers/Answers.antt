@@ -36,30 +36,28 @@ module _ (places count : ℕ) (attachments limits : List ℕ) (i : ℕ) where
   turn e l = e ∙ ap first_refusal (from_next l)
 
 pub loop-i-init : goal.loop-i-init
-loop-i-init c = (search rules, rw NL.sub-zero)
+loop-i-init c = rw NL.sub-zero
 
 -- 62
 pub returns-then-limit-attachments : goal.returns-then-limit-attachments
 returns-then-limit-attachments c =
-    sym (turn _ _ _ _ _ c.loop-i.invariant.1 (search rules) ∙ first_holds _ _ (ap not (le-ltb _ _ c.if-limit-attachments.true)))
+    sym (turn _ _ _ _ _ c.loop-i.invariant (search rules) ∙ first_holds _ _ (ap not (le-ltb _ _ c.if-limit-attachments.true)))
 
 -- 63
 pub returns-then-places-limit : goal.returns-then-places-limit
 returns-then-places-limit c =
-    sym (turn _ _ _ _ _ c.loop-i.invariant.1 (search rules)
+    sym (turn _ _ _ _ _ c.loop-i.invariant (search rules)
     ∙ first_fails _ _ (ap not (lt-ltb _ _ c.if-limit-attachments.false))
     ∙ first_holds _ _ (lt-ltb _ _ c.if-places-limit.true))
 
 pub loop-i-preserved : goal.loop-i-preserved
-loop-i-preserved c = (
-  search rules,
-  turn _ _ _ _ _ c.loop-i.invariant.1 (search rules)
-      ∙ first_fails _ _ (ap not (lt-ltb _ _ c.if-limit-attachments.false))
-      ∙ first_fails _ _ (le-ltb _ _ c.if-places-limit.false),
-)
+loop-i-preserved c =
+    turn _ _ _ _ _ c.loop-i.invariant (search rules)
+    ∙ first_fails _ _ (ap not (lt-ltb _ _ c.if-limit-attachments.false))
+    ∙ first_fails _ _ (le-ltb _ _ c.if-places-limit.false)
 
 pub returns : goal.returns
 unfolding layer_checks
 returns c =
     let none : c.args.list.count - c.loop-i.i ≡ 0 = omega arith in
-    sym (rw none at c.loop-i.invariant.1 ∙ first_none)
+    sym (rw none at c.loop-i.invariant ∙ first_none)

@@ -69,18 +69,15 @@ pub loop-x-init : goal.loop-x-init
 loop-x-init c =
     let a = c.args in
     let r = c.requires in
-    let is = begun a.row.now a.attachment a.limit r.0 r.1 c.sum_below.result c.sum_below.type_inv c.sum_below.ensures in (
-      search rules,
-      omega (arith, r.1.ordered),
-      rw is (to_z-of_z (sum_fits a.row.now a.attachment a.limit r.0 r.1 a.attachment (omega (arith, r.1.ordered)))),
-    )
+    let is = begun a.row.now a.attachment a.limit r.0 r.1 c.sum_below.result c.sum_below.type_inv c.sum_below.ensures in
+    rw is (to_z-of_z (sum_fits a.row.now a.attachment a.limit r.0 r.1 a.attachment (omega (arith, r.1.ordered))))
 
 pub overflow_add-saved : goal.overflow_add-saved
 overflow_add-saved c =
     let a = c.args in
     let r = c.requires in
     let loop = c.loop-x in
-    rw (summed a.row.now a.attachment a.limit r.0 r.1 loop.x loop.invariant.0 (search rules) _ loop.invariant.2)
+    rw (summed a.row.now a.attachment a.limit r.0 r.1 loop.x loop.auto.x (search rules) _ loop.invariant)
     (sum_fits a.row.now a.attachment a.limit r.0 r.1 (suc loop.x) (search rules))
 
 pub loop-x-preserved : goal.loop-x-preserved
@@ -88,19 +85,16 @@ loop-x-preserved c =
     let a = c.args in
     let r = c.requires in
     let loop = c.loop-x in
-    let is = summed a.row.now a.attachment a.limit r.0 r.1 loop.x loop.invariant.0 (search rules) _ loop.invariant.2 in (
-      search rules,
-      search rules,
-      rw (is, add-one) (to_z-of_z (sum_fits a.row.now a.attachment a.limit r.0 r.1 (suc loop.x) (search rules))),
-    )
+    rw (summed a.row.now a.attachment a.limit r.0 r.1 loop.x loop.auto.x (search rules) _ loop.invariant, add-one)
+    (to_z-of_z (sum_fits a.row.now a.attachment a.limit r.0 r.1 (suc loop.x) (search rules)))
 
 pub overflow_sub-result : goal.overflow_sub-result
 unfolding cost_by
 overflow_sub-result c =
     let a = c.args in
     let r = c.requires in
-    let last : c.loop-x.x ≡ a.limit = omega arith in
-    rw (width_is a.row.now a.attachment a.limit r.0 r.1, whole_held a.row.now a.attachment a.limit r.0 r.1, rw last at c.loop-x.invariant.2)
+    let last : c.loop-x.x ≡ a.limit = omega (arith, r.1.ordered) in
+    rw (width_is a.row.now a.attachment a.limit r.0 r.1, whole_held a.row.now a.attachment a.limit r.0 r.1, rw last at c.loop-x.invariant)
     (cost_fits a.row.now a.attachment a.limit r.0 r.1)
 
 pub returns : goal.returns
@@ -108,6 +102,6 @@ unfolding cost_by
 returns c =
     let a = c.args in
     let r = c.requires in
-    let last : c.loop-x.x ≡ a.limit = omega arith in
-    rw (width_is a.row.now a.attachment a.limit r.0 r.1, whole_held a.row.now a.attachment a.limit r.0 r.1, rw last at c.loop-x.invariant.2)
+    let last : c.loop-x.x ≡ a.limit = omega (arith, r.1.ordered) in
+    rw (width_is a.row.now a.attachment a.limit r.0 r.1, whole_held a.row.now a.attachment a.limit r.0 r.1, rw last at c.loop-x.invariant)
     (to_z-of_z (cost_fits a.row.now a.attachment a.limit r.0 r.1))

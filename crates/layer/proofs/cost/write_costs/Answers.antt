@@ -1,5 +1,4 @@
 -- After i turns the costs of the first i layers are written over the first i places.
-use borrow.Author.Rules.{rules}
 use mathlib.Core.Path.{◌≡◌, refl, ◌∙◌, ap}
 use mathlib.Core.List.{List}
 use Prim.Native.Nat.{ℕ, ◌+◌, ◌<◌}
@@ -20,15 +19,12 @@ next f i row answer v before is l =
 
 pub loop-i-init : goal.loop-i-init
 unfolding listed
-loop-i-init c = (search rules, refl)
+loop-i-init c = refl
 
 pub loop-i-preserved : goal.loop-i-preserved
-loop-i-preserved c = (
-  search rules,
-  next _ _ _ _ _ c.loop-i.invariant.1 (held w64 c.cost.type_inv c.cost.ensures) (omega (arith, c.requires.room)),
-)
+loop-i-preserved c = next _ _ _ _ _ c.loop-i.invariant (held w64 c.cost.type_inv c.cost.ensures) (omega (arith, c.requires.room))
 
 pub returns : goal.returns
 returns c =
     let last : c.loop-i.i ≡ c.args.list.count = omega arith in
-    rw last at c.loop-i.invariant.1
+    rw last at c.loop-i.invariant
