@@ -9,7 +9,7 @@ import exact
 LAWS = {
     "poisson": exact.poisson(Fraction(3, 2)),
     "binomial": exact.binomial(4, Fraction(1, 3)),
-    "negativeBinomial": exact.negative_binomial(2, Fraction(1, 3)),
+    "negative_binomial": exact.negative_binomial(2, Fraction(1, 3)),
     "alternating": exact.geometric(Fraction(-1, 2)),
     "together": exact.together(exact.negative_binomial(2, Fraction(1, 2)), exact.binomial(2, Fraction(1, 2))),
     "paired": exact.bunches(2, exact.poisson(Fraction(1, 2))),
@@ -18,13 +18,13 @@ LAWS = {
 THINNED = {
     "poisson": lambda q: exact.poisson(Fraction(3, 2) * (1 - q)),
     "binomial": lambda q: exact.binomial(4, Fraction(1, 3) * (1 - q)),
-    "negativeBinomial": lambda q: exact.negative_binomial(2, Fraction(1, 3) * (1 - q) / (1 - Fraction(1, 3) * q)),
+    "negative_binomial": lambda q: exact.negative_binomial(2, Fraction(1, 3) * (1 - q) / (1 - Fraction(1, 3) * q)),
 }
 TABLES = {"single": [1], "two": [1, 1], "gap": [2, 0, 1], "four": [3, 1, 4, 1]}
 
 INTEGER = r"(?:pos|negsuc) \d+"
 FRACTION = rf"\((?:whole \({INTEGER}\)|over \({INTEGER}\) \d+ \(lit≤ tt\))\)"
-LAW = r"\w+|\(thinnedLaw \w+ \d+ \w+ \(lit≤ tt\)\)"
+LAW = r"\w+|\(thinned_law \w+ \d+ \w+ \(lit≤ tt\)\)"
 ROW = re.compile(rf"^    (?:∷ )?row ({LAW}) (\w+) ({FRACTION}) (\d+) ({FRACTION})$")
 
 
@@ -38,7 +38,7 @@ def coefficients(law):
     """The count coefficients of a row's law. A thinned law names the law, the weight of size 0 and the table beside which that stands."""
     if law in LAWS:
         return LAWS[law]
-    name, zero, table = re.match(r"\(thinnedLaw (\w+) (\d+) (\w+)", law).groups()
+    name, zero, table = re.match(r"\(thinned_law (\w+) (\d+) (\w+)", law).groups()
     return THINNED[name](Fraction(int(zero), int(zero) + sum(TABLES[table])))
 
 

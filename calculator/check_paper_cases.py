@@ -108,7 +108,7 @@ def on_program(sheet):
 WITH_ZERO = 4
 MARKED = 40
 KINDS = {"curve": (on_curve, 17 + WITH_ZERO), "reader": (on_reader, 8), "level": (on_level, 14), "layers": (on_layers, 13),
-         "mean": (on_mean, 7), "trials": (on_trials, 10), "panjerWillmot": (on_panjer_willmot, 9), "hesselager": (on_hesselager, 7),
+         "mean": (on_mean, 7), "trials": (on_trials, 10), "panjer_willmot": (on_panjer_willmot, 9), "hesselager": (on_hesselager, 7),
          "program": (on_program, 5)}
 
 
@@ -132,19 +132,19 @@ class Row(NamedTuple):
 WORDS = {
     **{kind: Row(kind) for kind in KINDS},
     "pos": lambda n: n,
-    "negℤ": lambda z: -z,
+    "neg_ℤ": lambda z: -z,
     "map": lambda f: lambda values: [f(value) for value in values],
     "length": len,
     "replicate": lambda count: lambda value: [value] * count,
     "ascii": lambda text: list(text.encode()),
-    "lawOf": lambda order: lambda divisor: lambda a: lambda b: {"order": order, "divisor": divisor, "a": a, "b": b},
-    "startOf": lambda low: lambda high: {"low": low, "high": high},
-    "jobOf": lambda law: lambda start: lambda last: lambda zero: {"law": law, "start": start, "last": last, "zero": zero},
-    "partOf": lambda start: lambda count: {"start": start, "count": count},
-    "layerList": lambda count: lambda from_: lambda to: {"count": count, "attachments": array(from_), "limits": array(to)},
+    "law_of": lambda order: lambda divisor: lambda a: lambda b: {"order": order, "divisor": divisor, "a": a, "b": b},
+    "start_of": lambda low: lambda high: {"low": low, "high": high},
+    "job_of": lambda law: lambda start: lambda last: lambda zero: {"law": law, "start": start, "last": last, "zero": zero},
+    "part_of": lambda start: lambda count: {"start": start, "count": count},
+    "layer_list": lambda count: lambda from_: lambda to: {"count": count, "attachments": array(from_), "limits": array(to)},
     "accepted": answer(0, 0),
     "refused": lambda number: lambda place: answer(number, place),
-    "lentRows": lambda low: lambda high: lambda bound: lambda mark: lambda work: vars(Lent(low, high, bound, mark, work)),
+    "lent_rows": lambda low: lambda high: lambda bound: lambda mark: lambda work: vars(Lent(low, high, bound, mark, work)),
 }
 
 # each with how strongly it binds, to its left and to its right
@@ -176,7 +176,11 @@ class Definitions:
         self.found = {name: (parameters.split(), body) for name, parameters, body in found if clauses[name] == 1}
 
     def value(self, name, local):
-        """A parameter may have the name of a word, and what the file defines goes before a word from elsewhere."""
+        """A parameter may have the name of a word, and what the file defines goes before a word from elsewhere. Behind a point stands the
+        name of a record's field."""
+        record, point, field = name.rpartition(".")
+        if point:
+            return self.value(record, local)[field]
         if name in local:
             return local[name]
         if name not in self.found:

@@ -23,11 +23,20 @@ PROGRAM = TARGET / "bin/curve"
 LIBRARY = TARGET / "library"
 HEADER = ROOT / "library/claimtotals.h"
 
-# The crates of which the two are made.
+# The crates of which the two are made, and what rt builds of them.
 PROGRAM_CRATE, LIBRARY_CRATE = "curve", "interface"
+BUILT_PROGRAM, BUILT_LIBRARY = ROOT / "crates/curve/out/curve", ROOT / "crates/interface/out/libinterface.a"
 
-# The time of such a file is that at which the last build that passed began: a program that was linked and then failed its stored case is
-# there too.
+# The program's stored case: what it is given, and what it must write.
+CASE, ANSWER = ROOT / "crates/curve/stdin", ROOT / "crates/curve/stdout"
+
+# What is built runs on every processor of the kind x86-64, and not on newer ones alone: an archive does not look at the processor.
+FLAGS = ["--cpu", "x86-64"]
+
+# All that the last command of the kit said, and what the program wrote of its case.
+LOG, WRITTEN = TARGET / "log", TARGET / "curve.stdout"
+
+# The time of such a file is that at which the last build that passed began.
 PROGRAM_STAMP, LIBRARY_STAMP = TARGET / "curve.passed", TARGET / "library.passed"
 
 
@@ -44,9 +53,14 @@ def newest(*paths):
     return max(os.lstat(path).st_mtime_ns for path in found)
 
 
+def crate_parts():
+    """The files and folders of all crates. What rt keeps in a crate's out/ is none of them, and changes the time of the crate's folder."""
+    return [path for path in (ROOT / "crates").glob("*/*") if path.name != "out"]
+
+
 def is_due(stamp, built, *sources):
     """Whether it is not there, or a file that it is made of is newer."""
-    return not (stamp.exists() and built.exists()) or stamp.stat().st_mtime_ns < newest(ROOT / "crates.txt", ROOT / "crates", *sources)
+    return not (stamp.exists() and built.exists()) or stamp.stat().st_mtime_ns < newest(ROOT / "crates.txt", *crate_parts(), *sources)
 
 
 def program_is_due():
@@ -68,9 +82,9 @@ def pass_build(stamp, began):
 # ---- proving
 
 def dependencies():
-    """What crates.txt says that each crate depends on."""
-    lines = [line.split(":") for line in (ROOT / "crates.txt").read_text().splitlines() if line and not line.startswith("#")]
-    return {name: names.split() for name, names in lines}
+    """What crates.txt says that each crate depends on. Words behind a name say how it is built."""
+    lines = [line.split("#")[0].split(":") for line in (ROOT / "crates.txt").read_text().splitlines()]
+    return {words[0].split()[0]: words[1].split() for words in lines if len(words) > 1}
 
 
 def needed(crates):
@@ -90,42 +104,69 @@ class Progress:
     def __init__(self, crates):
         self.missing = needed(crates)
         self.count = len(self.missing)
-        say("proving and building, which takes two or three minutes where nothing is proved yet")
+        self.checked = None
+        say("proving and building, which takes many minutes where nothing is proved yet")
 
     def see(self, line):
-        found = re.match(r"rt: (\w+) proved|rt: target/staticlib/lib(\w+)\.a", line)
-        name = found and (found[1] or found[2])
-        if name in self.missing:
+        """Rattle names the crate that it has checked, and then says whether it is proved."""
+        found = re.match(r"crate (\w+): ", line)
+        if found:
+            self.checked = found[1]
+        elif line.startswith("logic=proved") and self.checked:
+            self.show(self.checked)
+
+    def show(self, crate):
+        """A crate that is proved, and before it what it depends on: nothing is said of what was proved earlier."""
+        proved = needed([crate])
+        for name in sorted(proved & self.missing, key=lambda name: (len(needed([name])), name)):
             self.missing.remove(name)
             say(f"{self.count - len(self.missing)} of {self.count}: {name}")
 
 
 def fault_of(lines):
-    """What a run says of its first fault: its first errors, else what comes last before something is said not to be proved."""
-    end = next((place + 1 for place, line in enumerate(lines) if re.search("not proved|NOT PROVED", line)), len(lines))
-    errors = [line for line in lines[:end] if re.search(r"\berror\b", line)]
-    told = [*errors[:3], lines[end - 1]] if errors else lines[:end][-4:]
-    return "\n".join(line[:400] for line in told)
+    """What a run says of its fault: its first errors, else what comes last."""
+    errors = [line for line in lines if re.search(r": (?:fatal )?error\b", line)]
+    return "\n".join(line[:400] for line in errors[:3] or lines[-4:])
 
 
-def prove(progress, *command):
-    """Runs a command of the kit."""
-    lines = []
-    with subprocess.Popen(command, cwd=ROOT, stdin=subprocess.DEVNULL, stdout=subprocess.PIPE, stderr=subprocess.STDOUT, text=True,
-                          errors="replace") as run:
-        for line in run.stdout:
+def place_of(lines, crate):
+    """The crate that failed: this one, or one that it depends on. Errors name the files of that crate alone."""
+    found = [re.match(r"rt: the library (\w+) did not build", line) for line in lines]
+    return next((line[1] for line in found if line), crate)
+
+
+def prove(progress, verb, crate, **streams):
+    """Runs a command of the kit in the crate's folder."""
+    lines, command, folder = [], ["rt", verb, *FLAGS], ROOT / "crates" / crate
+    with open(LOG, "w") as log, subprocess.Popen(command, cwd=folder, text=True, errors="replace", **streams) as run:
+        for line in run.stderr or run.stdout:
+            log.write(line)
             lines.append(line.rstrip("\n"))
             progress.see(line)
     if run.returncode:
-        raise Failed(f"a proof or the building failed, so nothing was built; target/log has all that was said:\n{fault_of(lines)}")
+        raise Failed(f"a proof or the building of the crate {place_of(lines, crate)} failed, so nothing was built; "
+                     f"{LOG.relative_to(ROOT)} has all that was said:\n{fault_of(lines)}")
+    progress.show(crate)
 
 
 # ---- the program and the library
 
+def run_case(progress):
+    """Proves, builds and runs the program, which must write of its stored case what is stored."""
+    with open(CASE, "rb") as case, open(WRITTEN, "wb") as written:
+        prove(progress, "run", PROGRAM_CRATE, stdin=case, stdout=written, stderr=subprocess.PIPE)
+    if WRITTEN.read_bytes() != ANSWER.read_bytes():
+        raise Failed(f"the program is proved, and what it wrote is not what its file {ANSWER.relative_to(ROOT)} has; "
+                     f"{WRITTEN.relative_to(ROOT)} has what it wrote")
+
+
 def build_program(progress):
     began = time.time_ns()
-    PROGRAM_STAMP.unlink(missing_ok=True)
-    prove(progress, "rt", "check", PROGRAM_CRATE)
+    for path in PROGRAM_STAMP, PROGRAM:
+        path.unlink(missing_ok=True)
+    run_case(progress)
+    PROGRAM.parent.mkdir(exist_ok=True)
+    shutil.copy(BUILT_PROGRAM, PROGRAM)
     pass_build(PROGRAM_STAMP, began)
 
 
@@ -161,8 +202,8 @@ def clear(folder):
 def build_files(progress, folder):
     """The static and the shared library in this folder, with the header beside them."""
     clear(folder)
-    prove(progress, "rt", "staticlib", LIBRARY_CRATE)
-    shutil.copy(TARGET / "staticlib/libinterface.a", folder / "libclaimtotals.a")
+    prove(progress, "lib", LIBRARY_CRATE, stdin=subprocess.DEVNULL, stdout=subprocess.PIPE, stderr=subprocess.STDOUT)
+    shutil.copy(BUILT_LIBRARY, folder / "libclaimtotals.a")
     shutil.copy(HEADER, folder)
     link(folder / "libclaimtotals.a", folder)
 

@@ -5,6 +5,7 @@
 use crate::{input, show};
 use compound::CurveAnswer;
 use model::{Job, Law, Start};
+use std::io::{Read, Write};
 
 // The rows that are lent are the fronts of arrays of so many places, more than a call asks for.
 const PLACES: usize = 512;
@@ -14,20 +15,20 @@ const WORK_PLACES: usize = 6_100;
 // What each place holds before the call. No entry is as low.
 const UNTOUCHED: i64 = i64::MIN;
 
-fn read_terms() -> [i64; 4] {
+fn read_terms<R: Read>(input: &mut R) -> [i64; 4] {
     [
-        input::signed(),
-        input::signed(),
-        input::signed(),
-        input::signed(),
+        input::signed(input),
+        input::signed(input),
+        input::signed(input),
+        input::signed(input),
     ]
 }
 
-fn read_law() -> Law {
-    let order = input::number();
-    let divisor = input::number();
-    let a = read_terms();
-    let b = read_terms();
+fn read_law<R: Read>(input: &mut R) -> Law {
+    let order = input::number(input);
+    let divisor = input::number(input);
+    let a = read_terms(input);
+    let b = read_terms(input);
     Law {
         order,
         divisor,
@@ -36,17 +37,17 @@ fn read_law() -> Law {
     }
 }
 
-fn read_start() -> Start {
-    let low = input::number();
-    let high = input::number();
+fn read_start<R: Read>(input: &mut R) -> Start {
+    let low = input::number(input);
+    let high = input::number(input);
     Start { low, high }
 }
 
-fn read_job() -> Job {
-    let law = read_law();
-    let start = read_start();
-    let last = input::number();
-    let zero = input::number();
+fn read_job<R: Read>(input: &mut R) -> Job {
+    let law = read_law(input);
+    let start = read_start(input);
+    let last = input::number(input);
+    let zero = input::number(input);
     Job {
         law,
         start,
@@ -55,17 +56,19 @@ fn read_job() -> Job {
     }
 }
 
-fn show_answer(answer: CurveAnswer) {
+fn show_answer<W: Write>(out: &mut W, answer: CurveAnswer) {
     match answer {
-        CurveAnswer::Accepted => show::answer(0, 0),
+        CurveAnswer::Accepted => show::answer(out, 0, 0),
         CurveAnswer::Refused(reason, place) => {
-            show::answer(compound::reason_number(reason), place)
+            show::answer(out, compound::reason_number(reason), place)
         }
     }
 }
 
 // Makes the call with the fronts of the rows, as long as the record says.
-fn call(
+fn call<R: Read, W: Write>(
+    input: &mut R,
+    out: &mut W,
     job: Job,
     weights: &[u64],
     low: &mut [i64],
@@ -74,32 +77,37 @@ fn call(
     mark: &mut [i64],
     work: &mut [i64],
 ) {
-    let lows = input::at_most(low.len());
-    let highs = input::at_most(high.len());
-    let bounds = input::at_most(bound.len());
-    let marks = input::at_most(mark.len());
-    let works = input::at_most(work.len());
-    show_answer(compound::curve(
-        job,
-        weights,
-        &mut low[..lows],
-        &mut high[..highs],
-        &mut bound[..bounds],
-        &mut mark[..marks],
-        &mut work[..works],
-    ));
+    let lows = input::at_most(input, low.len());
+    let highs = input::at_most(input, high.len());
+    let bounds = input::at_most(input, bound.len());
+    let marks = input::at_most(input, mark.len());
+    let works = input::at_most(input, work.len());
+    show_answer(
+        out,
+        compound::curve(
+            job,
+            weights,
+            &mut low[..lows],
+            &mut high[..highs],
+            &mut bound[..bounds],
+            &mut mark[..marks],
+            &mut work[..works],
+        ),
+    );
 }
 
-pub fn run() {
-    let job = read_job();
+pub fn run<R: Read, W: Write>(input: &mut R, out: &mut W) {
+    let job = read_job(input);
     let mut weights = [0u64; PLACES];
-    let count = input::numbers(&mut weights);
+    let count = input::numbers(input, &mut weights);
     let mut low = [UNTOUCHED; PLACES];
     let mut high = [UNTOUCHED; PLACES];
     let mut bound = [UNTOUCHED; PLACES];
     let mut mark = [UNTOUCHED; PLACES];
     let mut work = [UNTOUCHED; WORK_PLACES];
     call(
+        input,
+        out,
         job,
         &weights[..count],
         &mut low,
@@ -108,10 +116,10 @@ pub fn run() {
         &mut mark,
         &mut work,
     );
-    show::row(&low, UNTOUCHED);
-    show::row(&high, UNTOUCHED);
-    show::row(&bound, UNTOUCHED);
-    show::row(&mark, UNTOUCHED);
-    show::row(&work, UNTOUCHED);
-    show::text(b"\n");
+    show::row(out, &low, UNTOUCHED);
+    show::row(out, &high, UNTOUCHED);
+    show::row(out, &bound, UNTOUCHED);
+    show::row(out, &mark, UNTOUCHED);
+    show::row(out, &work, UNTOUCHED);
+    show::text(out, b"\n");
 }

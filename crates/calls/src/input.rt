@@ -2,6 +2,8 @@
 
 ghost use Rattle.std.specs.Prelude.{◌≤◌, length};
 
+use std::io::Read;
+
 fn wide(b: u8) -> u64 {
     b as u64
 }
@@ -14,15 +16,20 @@ fn joined(bytes: &[u8; 8]) -> u64 {
     n
 }
 
-pub fn number() -> u64 {
+// Reads until the row is full, the input ends or a read fails: what was read is in the first places, and the others stay as they were.
+fn fill<R: Read>(input: &mut R, row: &mut [u8]) {
+    let _ = input.read_exact(row);
+}
+
+pub fn number<R: Read>(input: &mut R) -> u64 {
     let mut bytes = [0u8; 8];
-    io::read_full(0, &mut bytes);
+    fill(input, &mut bytes);
     joined(&bytes)
 }
 
 // A number from 2^63 on stands for itself less 2^64.
-pub fn signed() -> i64 {
-    let n = number();
+pub fn signed<R: Read>(input: &mut R) -> i64 {
+    let n = number(input);
     if n < 9_223_372_036_854_775_808 {
         n as i64
     } else {
@@ -31,46 +38,46 @@ pub fn signed() -> i64 {
 }
 
 // The next number, and `most` for a larger one.
-pub fn at_most(most: usize) -> usize
+pub fn at_most<R: Read>(input: &mut R, most: usize) -> usize
     ensures { result ≤ most }
 {
-    let n = number() as usize;
+    let n = number(input) as usize;
     if n < most { n } else { most }
 }
 
 // A count and as many numbers, which come into the first places of the row. The answer is the count.
-pub fn numbers(row: &mut [u64]) -> usize
+pub fn numbers<R: Read>(input: &mut R, row: &mut [u64]) -> usize
     ensures { result ≤ length row.new }
 {
-    let count = at_most(row.len());
+    let count = at_most(input, row.len());
     for i in 0..count {
-        row[i] = number();
+        row[i] = number(input);
     }
     count
 }
 
 // The same, without an answer.
-pub fn sizes(row: &mut [usize]) {
-    for i in 0..at_most(row.len()) {
-        row[i] = number() as usize;
+pub fn sizes<R: Read>(input: &mut R, row: &mut [usize]) {
+    for i in 0..at_most(input, row.len()) {
+        row[i] = number(input) as usize;
     }
 }
 
-pub fn signed_numbers(row: &mut [i64]) -> usize
+pub fn signed_numbers<R: Read>(input: &mut R, row: &mut [i64]) -> usize
     ensures { result ≤ length row.new }
 {
-    let count = at_most(row.len());
+    let count = at_most(input, row.len());
     for i in 0..count {
-        row[i] = signed();
+        row[i] = signed(input);
     }
     count
 }
 
 // A count and as many bytes, likewise.
-pub fn bytes(row: &mut [u8]) -> usize
+pub fn bytes<R: Read>(input: &mut R, row: &mut [u8]) -> usize
     ensures { result ≤ length row.new }
 {
-    let count = at_most(row.len());
-    io::read_full(0, &mut row[..count]);
+    let count = at_most(input, row.len());
+    fill(input, &mut row[..count]);
     count
 }

@@ -3,35 +3,39 @@
 
 use crate::{input, show};
 use published::{LawAnswer, LawMade};
+use std::io::{Read, Write};
 
-fn show_answer(answer: LawAnswer) {
+fn show_answer<W: Write>(out: &mut W, answer: LawAnswer) {
     match answer {
-        LawAnswer::Accepted => show::number(0),
-        LawAnswer::Refused(reason) => show::number(published::reason_number(reason)),
+        LawAnswer::Accepted => show::number(out, 0),
+        LawAnswer::Refused(reason) => show::number(out, published::reason_number(reason)),
     }
 }
 
-fn show_made(made: LawMade) {
+fn show_made<W: Write>(out: &mut W, made: LawMade) {
     let answer = made.answer;
-    show_answer(answer);
-    show::text(b";");
+    show_answer(out, answer);
+    show::text(out, b";");
     let law = made.law;
-    show::law(law);
-    show::text(b"\n");
+    show::law(out, law);
+    show::text(out, b"\n");
 }
 
-pub fn run_panjer_willmot() {
-    let alpha_0 = input::signed();
-    let alpha_1 = input::signed();
-    let beta_0 = input::signed();
-    let beta_1 = input::signed();
-    show_made(published::panjer_willmot(alpha_0, alpha_1, beta_0, beta_1));
+pub fn run_panjer_willmot<R: Read, W: Write>(input: &mut R, out: &mut W) {
+    let alpha_0 = input::signed(input);
+    let alpha_1 = input::signed(input);
+    let beta_0 = input::signed(input);
+    let beta_1 = input::signed(input);
+    show_made(
+        out,
+        published::panjer_willmot(alpha_0, alpha_1, beta_0, beta_1),
+    );
 }
 
-pub fn run_hesselager() {
-    let b_0 = input::signed();
-    let b_1 = input::signed();
-    let a_0 = input::signed();
-    let a_1 = input::signed();
-    show_made(published::hesselager(b_0, b_1, a_0, a_1));
+pub fn run_hesselager<R: Read, W: Write>(input: &mut R, out: &mut W) {
+    let b_0 = input::signed(input);
+    let b_1 = input::signed(input);
+    let a_0 = input::signed(input);
+    let a_1 = input::signed(input);
+    show_made(out, published::hesselager(b_0, b_1, a_0, a_1));
 }

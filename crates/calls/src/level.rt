@@ -3,34 +3,35 @@
 
 use crate::{input, show};
 use quantile::QuantileAnswer;
+use std::io::{Read, Write};
 
 // More places than a query takes.
 const PLACES: usize = 512;
 
-fn show_answer(answer: QuantileAnswer) {
+fn show_answer<W: Write>(out: &mut W, answer: QuantileAnswer) {
     match answer {
         QuantileAnswer::Total(total) => {
-            show::answer(0, 0);
-            show::next(total as u64);
+            show::answer(out, 0, 0);
+            show::next(out, total as u64);
         }
         QuantileAnswer::Refused(reason, place) => {
-            show::answer(quantile::reason_number(reason), place);
-            show::next(0);
+            show::answer(out, quantile::reason_number(reason), place);
+            show::next(out, 0);
         }
     }
 }
 
-fn show_queries(low: &[i64], high: &[i64], level: i64) {
-    show_answer(quantile::sure(low, high, level));
-    show::text(b" ");
-    show_answer(quantile::possible(low, high, level));
+fn show_queries<W: Write>(out: &mut W, low: &[i64], high: &[i64], level: i64) {
+    show_answer(out, quantile::sure(low, high, level));
+    show::text(out, b" ");
+    show_answer(out, quantile::possible(low, high, level));
 }
 
-pub fn run() {
+pub fn run<R: Read, W: Write>(input: &mut R, out: &mut W) {
     let mut low = [0i64; PLACES];
-    let lows = input::signed_numbers(&mut low);
+    let lows = input::signed_numbers(input, &mut low);
     let mut high = [0i64; PLACES];
-    let highs = input::signed_numbers(&mut high);
-    show_queries(&low[..lows], &high[..highs], input::signed());
-    show::text(b"\n");
+    let highs = input::signed_numbers(input, &mut high);
+    show_queries(out, &low[..lows], &high[..highs], input::signed(input));
+    show::text(out, b"\n");
 }

@@ -12,26 +12,31 @@ mod reader;
 mod show;
 mod starts;
 
+use std::io::{Read, Write};
+
 // One record; false at the end of the input, where the kind is 0.
-fn next_call() -> bool {
-    match input::number() {
-        1 => reader::run(),
-        2 => curve::run(),
-        3 => level::run(),
-        4 => starts::run_mean(),
-        5 => starts::run_trials(),
-        6 => laws::run_panjer_willmot(),
-        7 => laws::run_hesselager(),
-        8 => layers::run(),
+fn next_call<R: Read, W: Write>(input: &mut R, out: &mut W) -> bool {
+    match input::number(input) {
+        1 => reader::run(input, out),
+        2 => curve::run(input, out),
+        3 => level::run(input, out),
+        4 => starts::run_mean(input, out),
+        5 => starts::run_trials(input, out),
+        6 => laws::run_panjer_willmot(input, out),
+        7 => laws::run_hesselager(input, out),
+        8 => layers::run(input, out),
         _ => return false,
     }
     true
 }
 
 // A proved loop has to end, and nothing says that the input does: the count of turns is one that no input uses up.
-fn main() {
-    let mut turns = u64::MAX;
-    while turns > 0 && next_call() {
-        turns -= 1;
+fn main(rt: HostRuntime) {
+    let mut input = rt.stdin();
+    let mut out = rt.stdout();
+    for _ in 0..u64::MAX {
+        if !next_call(&mut input, &mut out) {
+            return;
+        }
     }
 }

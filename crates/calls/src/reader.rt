@@ -7,83 +7,89 @@ ghost use Rattle.std.specs.Prelude.{◌≤◌, length};
 use crate::{input, show};
 use model::{Job, Start};
 use sheet::{LineAnswer, SheetRead};
+use std::io::{Read, Write};
 
 // The row that is lent is the front of an array of so many places, more than a call asks for.
 const PLACES: usize = 512;
 
+// More bytes than a sheet may have.
+const SPACE: usize = 65_536;
+
 // What each place holds before the call. No weight is as large.
 const MARK: u64 = u64::MAX;
 
-fn show_answer(answer: LineAnswer) {
+fn show_answer<W: Write>(out: &mut W, answer: LineAnswer) {
     match answer {
-        LineAnswer::Accepted => show::answer(0, 0),
-        LineAnswer::Refused(reason, line) => { show::answer(lines::reason_number(reason), line) }
+        LineAnswer::Accepted => show::answer(out, 0, 0),
+        LineAnswer::Refused(reason, line) => {
+            show::answer(out, lines::reason_number(reason), line)
+        }
     }
 }
 
-fn show_start(start: Start) {
-    show::next(start.low);
-    show::next(start.high);
+fn show_start<W: Write>(out: &mut W, start: Start) {
+    show::next(out, start.low);
+    show::next(out, start.high);
 }
 
-fn show_job(job: Job) {
+fn show_job<W: Write>(out: &mut W, job: Job) {
     let law = job.law;
-    show::law(law);
+    show::law(out, law);
     let start = job.start;
-    show_start(start);
-    show::next(job.last);
-    show::next(job.zero);
+    show_start(out, start);
+    show::next(out, job.last);
+    show::next(out, job.zero);
 }
 
-fn show_read(read: SheetRead) {
+fn show_read<W: Write>(out: &mut W, read: SheetRead) {
     let answer = read.answer;
-    show_answer(answer);
-    show::text(b";");
+    show_answer(out, answer);
+    show::text(out, b";");
     let job = read.job;
-    show_job(job);
-    show::next(read.count as u64);
+    show_job(out, job);
+    show::next(out, read.count as u64);
 }
 
-fn show_place(severity: usize, held: u64) {
+fn show_place<W: Write>(out: &mut W, severity: usize, held: u64) {
     if held != MARK {
-        show::place(severity);
-        show::number(held);
+        show::place(out, severity);
+        show::number(out, held);
     }
 }
 
-fn show_row(row: &[u64]) {
-    show::text(b";");
+fn show_row<W: Write>(out: &mut W, row: &[u64]) {
+    show::text(out, b";");
     for i in 0..row.len() {
-        show_place(i + 1, row[i]);
+        show_place(out, i + 1, row[i]);
     }
 }
 
-fn show_byte(b: u8) {
-    show::text(b" ");
-    io::print_hex(1, b as u64, 2);
+fn show_byte<W: Write>(out: &mut W, b: u8) {
+    show::text(out, b" ");
+    show::hex(out, b);
 }
 
-fn show_word(word: &[u8]) {
-    show::text(b";");
+fn show_word<W: Write>(out: &mut W, word: &[u8]) {
+    show::text(out, b";");
     for i in 0..word.len() {
-        show_byte(word[i]);
+        show_byte(out, word[i]);
     }
 }
 
 // Makes both calls for the front of the row, as long as `places` says.
-fn call(sheet: &[u8], row: &mut [u64], places: usize)
+fn call<W: Write>(out: &mut W, sheet: &[u8], row: &mut [u64], places: usize)
     requires { places ≤ length row.old }
 {
-    show_read(sheet::read_sheet(sheet, &mut row[..places]));
-    show_row(row);
-    show_word(fault::faulty_word(sheet, places));
+    show_read(out, sheet::read_sheet(sheet, &mut row[..places]));
+    show_row(out, row);
+    show_word(out, fault::faulty_word(sheet, places));
 }
 
-pub fn run() {
+pub fn run<R: Read, W: Write>(input: &mut R, out: &mut W) {
     let mut row = [MARK; PLACES];
-    let places = input::at_most(PLACES);
-    let mut space = io::large_buffer();
-    let size = input::bytes(&mut space);
-    call(&space[..size], &mut row, places);
-    show::text(b"\n");
+    let places = input::at_most(input, PLACES);
+    let mut space = [0u8; SPACE];
+    let size = input::bytes(input, &mut space);
+    call(out, &space[..size], &mut row, places);
+    show::text(out, b"\n");
 }

@@ -1,73 +1,79 @@
-// Writing to standard output.
+// Writing to standard output. Where a write fails, the rest of its piece is left out.
 
 use model::Law;
 use output::size;
+use std::io::Write;
 
-pub fn text(bytes: &[u8]) {
-    io::write_all(1, bytes);
+pub fn text<W: Write>(out: &mut W, bytes: &[u8]) {
+    let _ = out.write_all(bytes);
 }
 
-pub fn number(n: u64) {
-    io::print_decimal(1, n);
+pub fn number<W: Write>(out: &mut W, n: u64) {
+    let _ = write!(out, "{n}");
 }
 
-pub fn next(n: u64) {
-    text(b" ");
-    number(n);
+// Two hexadecimal digits.
+pub fn hex<W: Write>(out: &mut W, b: u8) {
+    let _ = write!(out, "{b:02x}");
 }
 
-pub fn signed(z: i64) {
+pub fn next<W: Write>(out: &mut W, n: u64) {
+    text(out, b" ");
+    number(out, n);
+}
+
+pub fn signed<W: Write>(out: &mut W, z: i64) {
     if z < 0 {
-        text(b"-");
+        text(out, b"-");
     }
-    number(size(z));
+    number(out, size(z));
 }
 
-pub fn next_signed(z: i64) {
-    text(b" ");
-    signed(z);
+pub fn next_signed<W: Write>(out: &mut W, z: i64) {
+    text(out, b" ");
+    signed(out, z);
 }
 
 // The number of an answer, 0 for an acceptance, and its place or line.
-pub fn answer(reason: u64, place: usize) {
-    number(reason);
-    next(place as u64);
+pub fn answer<W: Write>(out: &mut W, reason: u64, place: usize) {
+    number(out, reason);
+    next(out, place as u64);
 }
 
-fn terms(row: [i64; 4]) {
-    next_signed(row[0]);
-    next_signed(row[1]);
-    next_signed(row[2]);
-    next_signed(row[3]);
+fn terms<W: Write>(out: &mut W, row: [i64; 4]) {
+    next_signed(out, row[0]);
+    next_signed(out, row[1]);
+    next_signed(out, row[2]);
+    next_signed(out, row[3]);
 }
 
 // k, D, A_1 to A_4 and B_1 to B_4.
-pub fn law(numbers: Law) {
-    next(numbers.order);
-    next(numbers.divisor);
+pub fn law<W: Write>(out: &mut W, numbers: Law) {
+    next(out, numbers.order);
+    next(out, numbers.divisor);
     let a = numbers.a;
-    terms(a);
+    terms(out, a);
     let b = numbers.b;
-    terms(b);
+    terms(out, b);
 }
 
 // A place of a row, in front of what it holds.
-pub fn place(at: usize) {
-    next(at as u64);
-    text(b"=");
+pub fn place<W: Write>(out: &mut W, at: usize) {
+    next(out, at as u64);
+    text(out, b"=");
 }
 
-fn held(at: usize, value: i64, mark: i64) {
+fn held<W: Write>(out: &mut W, at: usize, value: i64, mark: i64) {
     if value != mark {
-        place(at);
-        signed(value);
+        place(out, at);
+        signed(out, value);
     }
 }
 
 // The places of a row that no longer hold the mark that they held before the call.
-pub fn row(values: &[i64], mark: i64) {
-    text(b";");
+pub fn row<W: Write>(out: &mut W, values: &[i64], mark: i64) {
+    text(out, b";");
     for i in 0..values.len() {
-        held(i, values[i], mark);
+        held(out, i, values[i], mark);
     }
 }

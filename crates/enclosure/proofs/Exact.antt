@@ -1,14 +1,13 @@
 -- What an entry needs in order to leave a sum exact, by the factor's sign; marks in a row; and the entries of a term that need no look.
-use mathlib.Core.Path.{◌≡◌, refl, sym}
-use mathlib.Core.Bool.{Bool, true, false, true≢false, ◌&&◌}
+use mathlib.Core.Path.{◌≡◌, refl}
+use mathlib.Core.Bool.{Bool, true, false, ◌&&◌}
 use mathlib.Core.List.{List}
 use mathlib.Core.Logic.{inl, inr}
 use Prim.Native.Nat.{ℕ, zero, suc, ◌+◌, ◌-◌, ◌≤◌, ◌<◌}
 use native.Mathlib.Omega.{arith}
-use borrow.Author.Tests.{ltb-true, ltb-false, leb-false}
 use lib.IntN.{ℤ, pos, negsuc}
 use lib.ListN.{get_or}
-use lib.Signed.{lt_z, le_z, ◌≤ℤ◌}
+use lib.Signed.{◌≤ℤ◌}
 use Rattle.algebra.specs.Table.{same_integer}
 use Rattle.algebra.proofs.And.{both, HoldBelow}
 use Rattle.algebra.proofs.Integer.{signed, *ℤ-nonneg}
@@ -20,30 +19,7 @@ use Rattle.enclosure.specs.Mark.{keeps_exact, term_keeps}
 use Rattle.enclosure.specs.Known.{SettledRow, KnownFrom}
 
 module _ (f low high : ℤ) (exact : Bool) where
-  pub keeps_above : lt_z (pos 0) f ≡ true → keeps_exact f low high exact ≡ exact
-  keeps_above = by f
-    where
-      by : (f : ℤ) → lt_z (pos 0) f ≡ true → keeps_exact f low high exact ≡ exact
-      by (pos zero) e = absurd (omega (arith, ltb-true 0 0 e))
-      by (pos (suc n)) e = refl
-      by (negsuc n) e = absurd (true≢false (sym e))
-
-  pub keeps_zero : lt_z (pos 0) f ≡ false → le_z (pos 0) f ≡ true → keeps_exact f low high exact ≡ true
-  keeps_zero = by f
-    where
-      by : (f : ℤ) → lt_z (pos 0) f ≡ false → le_z (pos 0) f ≡ true → keeps_exact f low high exact ≡ true
-      by (pos zero) e h = refl
-      by (pos (suc n)) e h = absurd (omega (arith, ltb-false 0 (suc n) e))
-      by (negsuc n) e h = absurd (true≢false (sym h))
-
-  pub keeps_below : le_z (pos 0) f ≡ false → keeps_exact f low high exact ≡ (exact && same_integer low high)
-  keeps_below = by f
-    where
-      by : (f : ℤ) → le_z (pos 0) f ≡ false → keeps_exact f low high exact ≡ (exact && same_integer low high)
-      by (pos n) e = absurd (omega (arith, leb-false 0 n e))
-      by (negsuc n) e = refl
-
-  -- an exact entry does under a factor that is not negative, and one with equal ends under any
+  -- an exact entry leaves a sum exact under a factor that is not negative, and one with equal ends under any
   keeps_above_zero : pos 0 ≤ℤ f → exact ≡ true → keeps_exact f low high exact ≡ true
   keeps_above_zero = by f
     where

@@ -29,10 +29,6 @@ use Rattle.enclosure.specs.Run.{raised, raised_term, raised_none, raised_plus, r
 use Rattle.enclosure.proofs.Scaled.{same_entry}
 use Rattle.enclosure.proofs.Sizes.{first_weights, one_weight, slope_fits, line_size, factor_size}
 
-pub same_raised : {l l' h h' b b' f f' : ℕ} → l ≡ l' → h ≡ h' → b ≡ b' → f ≡ f'
-    → ◌≡◌ {A = Raised} (record { low = l; high = h; bound = b; factors = f }) (record { low = l'; high = h'; bound = b'; factors = f' })
-same_raised p q r s = λ i. record { low = p i; high = q i; bound = r i; factors = s i }
-
 -- ---- lowered
 lowered_column : (a b f g : ℕ)
     → pos a -ℤ pos f *ℤ pos (2 * unit) +ℤ (pos b -ℤ pos g *ℤ pos (2 * unit))

@@ -43,7 +43,7 @@ pub fn faulty_part(sheet: &[u8], places: usize) -> Part
 // bytes may stand too.
 pub fn faulty_word(sheet: &[u8], places: usize) -> &[u8]
     ensures bytes { result.now ≡ faulty_word places sheet.now }
-    ensures place { result.ref_ptr ≡ (sheet.entry.ptr.0, (faulty_part places sheet.now).start + sheet.entry.ptr.1) }
+    ensures place { result.ref_ptr ≡ (sheet.entry.ref_ptr.0, (faulty_part places sheet.now).start + sheet.entry.ref_ptr.1) }
 {
     let part = faulty_part(sheet, places);
     let start = part.start;

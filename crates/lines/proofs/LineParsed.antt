@@ -31,6 +31,11 @@ abbrev ByWords : Bool → List (List ℕ) → Option (List ℤ) → Type 0
 ByWords signs ws (some zs) = AreNumbers signs ws zs
 ByWords signs ws none = Unit {0}
 
+-- what holds of the first number and of each other one
+each_next : (P : ℤ → Type 0) (z : ℤ) (zs : List ℤ) → P z → ((i : ℕ) → P (get_or zs i (pos 0))) → (i : ℕ) → P (get_or (z ∷ zs) i (pos 0))
+each_next P z zs here others zero = here
+each_next P z zs here others (suc j) = others j
+
 by_words : (signs : Bool) (ws : List (List ℕ)) → ByWords signs ws (all_numbers signs ws)
 unfolding all_numbers
 by_words signs [] = record { written = refl; small = λ i. lit< tt; fit = λ i. refl }
@@ -43,8 +48,8 @@ by_words signs (w ∷ ws) = by (number signs w) refl (all_numbers signs ws) (by_
         let d = number_is_decimal signs w z e in
         record {
           written = λ i. d.0 i ∷ f.written i;
-          small = λ i. elim i [ zero ↦ d.1 | suc j ↦ f.small j ];
-          fit = λ i. elim i [ zero ↦ d.2 | suc j ↦ f.fit j ];
+          small = each_next (λ y. AtMostTenDigits y) z zs d.1 f.small;
+          fit = each_next (λ y. sign_fits signs y ≡ true) z zs d.2 f.fit;
         }
 
 -- ---- the line

@@ -10,10 +10,9 @@ use Rattle.model.proofs.Answer.{none_holds, first_append}
 use Rattle.intervals.proofs.Passed.{Passed as RowsPassed, passed}
 use Rattle.quantile.specs.declared.Reason.{Reason}
 use Rattle.quantile.specs.declared.Reason.TheVariants.{Rows, Level, Entry, LowsShort, HighsShort}
-use Rattle.quantile.specs.declared.QuantileAnswer.TheVariants.{Refused}
 use Rattle.quantile.specs.declared.check.Check.{Check}
 use Rattle.quantile.specs.declared.check.Check.TheVariants.{Passed}
-use Rattle.quantile.specs.Call.{number_of, paper, quantile_of, checks, reach_check, answered, query_by}
+use Rattle.quantile.specs.Call.{number_of, quantile_of, checks, reach_check, answered, query_by}
 use Rattle.quantile.specs.Checked.{check_answer, after_checks}
 
 -- no reason has the number of an acceptance
@@ -23,11 +22,6 @@ not_accepted Level place = refl
 not_accepted Entry place = refl
 not_accepted LowsShort place = refl
 not_accepted HighsShort place = refl
-
--- so a refusal of the checks is that of the call
-pub after_refusal : (reason : Reason) (place : ℕ) (row : List ℤ) (number : ℕ) (level : ℤ)
-    → paper (Refused reason place) ≡ after_checks (refused (number_of reason) place) row number level
-after_refusal reason place row number level = simp (not_accepted reason place)
 
 -- what the checks tell of two rows and a level
 pub record Told (low high : List ℤ) (level : ℤ) (check : Check) : Type 0 where

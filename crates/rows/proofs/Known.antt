@@ -1,4 +1,5 @@
--- What is known of the rows: an entry that is exact, or exact with equal ends, lets it stand, and any other ends it at its total.
+-- What is known of the rows, row by row and total by total: an entry that is exact, or exact with equal ends, lets it stand, and any other
+-- ends it at its total.
 use mathlib.Core.Path.{◌≡◌, refl, sym, ap, ap₂, ◌∙◌}
 use mathlib.Core.Bool.{Bool, true, false, cond, ◌&&◌}
 use mathlib.Core.Logic.{◌⊎◌, inl, inr}
@@ -16,18 +17,6 @@ use Rattle.enclosure.specs.declared.marks.Settled.{Settled}
 use Rattle.rows.specs.Curve.{Rows}
 use Rattle.rows.specs.Exact.{Marks}
 use Rattle.rows.specs.Progress.{SettledRows, settled_where, exact_equal, settled_by, settled_after}
-
--- ---- one entry
-module _ (s : Settled) (x : ℕ) (exact : Bool) (e : Entry) where
-  pub ended : exact ≡ false → record { exact = x + 1; equal = x + 1 } ≡ settled_by s x exact e
-  ended h = sym (ap (λ (b : Bool). settled_by s x b e) h)
-
-  pub stands : exact ≡ true → same_integer e.low e.high ≡ true → s ≡ settled_by s x exact e
-  stands h same = sym (ap₂ (λ (b c : Bool). settled_where s x b (b && c)) h same)
-
-  pub ends_apart : exact ≡ true → same_integer e.low e.high ≡ false
-      → record { exact = s.exact; equal = x + 1 } ≡ settled_by s x exact e
-  ends_apart h other = sym (ap₂ (λ (b c : Bool). settled_where s x b (b && c)) h other)
 
 -- ---- row by row
 cond_and : (a b : Bool) (m n : ℕ) → cond b (cond a m n) n ≡ cond (a && b) m n

@@ -7,12 +7,12 @@ use native.Mathlib.Nat as NL
 use native.Mathlib.Omega.{arith}
 use lib.Dec.{lit<}
 use lib.IntN.{ℤ, pos}
-use lib.ListN.{length, get_or, take, drop, set, length-drop}
-use lib.Seq.{length-take-le, get_or-take, get_or-drop, get_or-set_same, get_or-set_other}
+use lib.ListN.{length, get_or, take, drop, set}
+use lib.Seq.{get_or-take, get_or-drop, get_or-set_same, get_or-set_other}
 use Rattle.model.specs.Mark.{mark_of}
 use Rattle.enclosure.specs.declared.Entry.{Entry}
 use Rattle.rows.specs.Layout.{Lent, lent_rows, work_places, column_at, stored, placed}
-use Rattle.rows.specs.Layout.{marks_at, marks_of, stored_numbers, mark_put, work_put}
+use Rattle.rows.specs.Layout.{marks_at, stored_numbers, mark_put, work_put}
 use Rattle.rows.proofs.Stored.{cell_apart, column_cell}
 
 pub marks_within : (places j : ℕ) → j ≤ 2 → marks_at places j + places ≤ work_places places
@@ -26,13 +26,6 @@ marks_cell : (work : List ℤ) (places j z : ℕ) → z < places
 marks_cell work places j z h =
     let at = marks_at places j in
     get_or-take places (drop at work) z (pos 0) h ∙ get_or-drop at work z (pos 0)
-
-pub marks_long : (places j : ℕ) (mark work : List ℤ) → j ≤ 3 → places ≤ length mark → work_places places ≤ length work
-    → places ≤ length (marks_of places j mark work)
-marks_long places zero mark work h l m = l
-marks_long places (suc j) mark work h l m =
-    let within = marks_within places j (omega arith) in
-    NL.le_of_eq (sym (length-take-le places (drop (marks_at places j) work) (rw length-drop (omega arith))))
 
 -- ---- an entry is put
 pub placed_marks : (places : ℕ) (mark : List ℤ) (lent : Lent) (j x : ℕ) (e : Entry) (i z : ℕ) → j ≤ 3 → x < places → z < places

@@ -2,17 +2,16 @@
 -- at a total changes no other.
 use mathlib.Core.Path.{◌≡◌, refl, sym, ap, ◌∙◌}
 use mathlib.Core.List.{List}
-use Prim.Native.Nat.{ℕ, zero, suc, ◌+◌, ◌-◌, ◌*◌, ◌≤◌, ◌<◌}
+use Prim.Native.Nat.{ℕ, zero, suc, ◌+◌, ◌*◌, ◌≤◌, ◌<◌}
 use native.Mathlib.Nat as NL
 use native.Mathlib.Decide.{dec_lt}
 use native.Mathlib.Omega.{arith}
 use lib.Dec.{lit<, lit≤}
 use lib.IntN.{ℤ, pos}
-use lib.ListN.{length, get_or, take, drop, set, length-drop, length-set}
-use lib.Seq.{length-take-le, get_or-take, get_or-drop, get_or-set_same, get_or-set_other}
+use lib.ListN.{length, get_or, take, drop, set, length-set}
+use lib.Seq.{get_or-take, get_or-drop, get_or-set_same, get_or-set_other}
 use Rattle.enclosure.specs.declared.Entry.{Entry}
-use Rattle.rows.specs.Layout.{Lent, lent_rows, work_places, Reachable, column_at, column_of, stored, put_columns, placed}
-use Rattle.rows.proofs.Recursion.{suc_pred}
+use Rattle.rows.specs.Layout.{Lent, work_places, Reachable, column_at, column_of, stored, put_columns, placed}
 
 -- ---- columns
 -- column n of row j + 1 lies in the work row
@@ -29,26 +28,7 @@ column_cell work places j n z h =
     let at = column_at places j n in
     get_or-take places (drop at work) z (pos 0) h ∙ get_or-drop at work z (pos 0)
 
-pub column_long : (places j n : ℕ) (first work : List ℤ) → j ≤ 3 → n ≤ 2 → places ≤ length first → work_places places ≤ length work
-    → places ≤ length (column_of places j n first work)
-column_long places zero n first work h k l m = l
-column_long places (suc j) n first work h k l m =
-    let within = column_within places j n (omega arith) k in
-    NL.le_of_eq (sym (length-take-le places (drop (column_at places j n) work) (rw length-drop (omega arith))))
-
 -- ---- an entry that is put
-pub same_lent_lem : {l l' h h' b b' w w' : List ℤ} → l ≡ l' → h ≡ h' → b ≡ b' → w ≡ w' → lent_rows l h b w ≡ lent_rows l' h' b' w'
-same_lent_lem p q r s = λ i. lent_rows (p i) (q i) (r i) (s i)
-
-pub placed_first : (places : ℕ) (lent : Lent) (j x : ℕ) (e : Entry) → j ≡ 0
-    → lent_rows (set lent.low x e.low) (set lent.high x e.high) (set lent.bound x e.bound) lent.work
-    ≡ placed places lent j x e
-placed_first places lent j x e h = ap (λ (k : ℕ). placed places lent k x e) (sym h)
-
-pub placed_further : (places : ℕ) (lent : Lent) (j x : ℕ) (e : Entry) → (j ≡ 0 → ⊥)
-    → lent_rows lent.low lent.high lent.bound (put_columns lent.work places (j - 1) x e) ≡ placed places lent j x e
-placed_further places lent j x e above = ap (λ (k : ℕ). placed places lent k x e) (sym (suc_pred j above))
-
 -- two cells of the work row that are not in one column at one total are two places
 pub cell_apart : (n a b z x : ℕ) → z < n → x < n → (a ≡ b → z ≡ x → ⊥) → a * n + z ≡ b * n + x → ⊥
 cell_apart n a b z x hz hx apart e = by (dec_lt a b) (dec_lt b a)

@@ -202,7 +202,7 @@ value_below n (b ∷ w) e =
 pub digits_below : (w : List ℕ) → every is_digit w ≡ true → length w ≤ 10 → value w < 10 ^ 10
 digits_below w e h = omega (arith, value_below 0 w e, NL.pow-le-pow_right {n = 10} (omega arith) h)
 
-numeral_below : (w : List ℕ) → is_numeral w ≡ true → value w < 10 ^ 10
+pub numeral_below : (w : List ℕ) → is_numeral w ≡ true → value w < 10 ^ 10
 numeral_below w e = let t = numeral_tests w e in digits_below w t.3 (leb-true (length w) 10 t.1)
 
 -- what a word is that is a number

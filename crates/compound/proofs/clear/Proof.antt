@@ -11,10 +11,10 @@ use Rattle.algebra.proofs.Slice.{written_length, written_next}
 use Rattle.compound.proofs.clear.Statement.{statement}
 use Rattle.compound.proofs.clear.Tie as tie
 
-abbrev invariant_loop : tie.invariant_loop
+abbrev invariant_loop : tie.invariant-loop-i
 invariant_loop row₀ n i₀ row i = (i ≤ n) × (row ≡ written (replicate i (pos 0)) row₀)
 
-abbrev decreases_loop : tie.decreases_loop
+abbrev decreases_loop : tie.decreases-loop-i
 decreases_loop row₀ n i₀ row i = n - i
 
 zeros_length : (i : ℕ) (row : List ℤ) → i ≤ length row → length (written (replicate i (pos 0)) row) ≡ length row
@@ -28,28 +28,28 @@ zeros_next i row h =
     ∙ ap (λ (front : List ℤ). written front row) (replicate-append-replicate i 1 (pos 0))
 
 -- the row keeps its length
-same_size : (c : tie.At-loop invariant_loop decreases_loop) → length c.loop.row ≡ length c.before.args.row.now
-same_size c = ap length c.loop.invariant.1 ∙ zeros_length c.loop.i c.before.args.row.now (search rules)
+same_size : (c : tie.At-loop-i invariant_loop decreases_loop) → length c.loop-i.row ≡ length c.args.row.now
+same_size c = ap length c.loop-i.invariant.1 ∙ zeros_length c.loop-i.i c.args.row.now (search rules)
 
-loop_holds : tie.Need-loop-init invariant_loop decreases_loop
+loop_holds : tie.Need-loop-i-init invariant_loop decreases_loop
 loop_holds c = (search rules, refl)
 
-slice_set_of_row : tie.Need-slice-set-of-row invariant_loop decreases_loop
+slice_set_of_row : tie.Need-slice_set_of-row invariant_loop decreases_loop
 slice_set_of_row c = let e = same_size c.before in search rules
 
-loop_again : tie.Need-loop-preserved invariant_loop decreases_loop
+loop_again : tie.Need-loop-i-preserved invariant_loop decreases_loop
 loop_again c = (
   search rules,
-  rw c.before.loop.invariant.1 (zeros_next c.before.loop.i c.before.before.args.row.now (search rules)),
+  rw c.loop-i.invariant.1 (zeros_next c.loop-i.i c.args.row.now (search rules)),
 )
 
-same_length : tie.Need-same-length invariant_loop decreases_loop
+same_length : tie.Need-shape_of-row invariant_loop decreases_loop
 same_length c = same_size c.before
 
 returns : tie.Need-returns invariant_loop decreases_loop
 returns c =
-    let all : c.before.loop.i ≡ c.before.before.args.n = omega arith in
-    rw all at c.before.loop.invariant.1
+    let all : c.loop-i.i ≡ c.args.n = omega arith in
+    rw all at c.loop-i.invariant.1
 
 pub clear_spec : {M : Type 1} → statement M
 clear_spec =

@@ -12,10 +12,10 @@ use Rattle.algebra.proofs.Slice.{written_length, written_next}
 use Rattle.sheet.proofs.put.Statement.{statement}
 use Rattle.sheet.proofs.put.Tie as tie
 
-abbrev invariant_loop : tie.invariant_loop
+abbrev invariant_loop : tie.invariant-loop-i
 invariant_loop front row₀ i₀ i-end row i = (i ≤ length front) × (row ≡ written (take i front) row₀)
 
-abbrev decreases_loop : tie.decreases_loop
+abbrev decreases_loop : tie.decreases-loop-i
 decreases_loop front row₀ i₀ i-end row i = length front - i
 
 module _ (front row : List ℕ) (i : ℕ) (h : i ≤ length front) where
@@ -30,30 +30,30 @@ module _ (front row : List ℕ) (i : ℕ) (h : i ≤ length front) where
       ∙ ap (λ (f : List ℕ). written f row) (sym (ap (λ (n : ℕ). take n front) (add-one i) ∙ take-suc front i 0 l))
 
 -- the row keeps its length
-kept : (c : tie.At-loop invariant_loop decreases_loop) → length c.loop.row ≡ length c.before.args.row.now
+kept : (c : tie.At-loop-i invariant_loop decreases_loop) → length c.loop-i.row ≡ length c.args.row.now
 kept c =
-    let a = c.before.args in
-    ap length c.loop.invariant.1 ∙ front_length a.front.now a.row.now c.loop.i c.loop.invariant.0 c.before.requires
+    let a = c.args in
+    ap length c.loop-i.invariant.1 ∙ front_length a.front.now a.row.now c.loop-i.i c.loop-i.invariant.0 c.requires
 
-loop_again : tie.Need-loop-preserved invariant_loop decreases_loop
+loop_again : tie.Need-loop-i-preserved invariant_loop decreases_loop
 loop_again c =
     let at = c.before.before in
-    let a = at.before.args in (
+    let a = at.args in (
       omega arith,
-      rw at.loop.invariant.1
-          (front_next a.front.now a.row.now at.loop.i at.loop.invariant.0 c.before.loop-test.true at.before.requires),
+      rw at.loop-i.invariant.1
+          (front_next a.front.now a.row.now at.loop-i.i at.loop-i.invariant.0 c.loop-i-test.true at.requires),
     )
 
 returns : tie.Need-returns invariant_loop decreases_loop
 returns c =
     let at = c.before in
-    let a = at.before.args in
-    at.loop.invariant.1 ∙ ap (λ (f : List ℕ). written f a.row.now) (take_all at.loop.i a.front.now c.loop-test.false)
+    let a = at.args in
+    at.loop-i.invariant.1 ∙ ap (λ (f : List ℕ). written f a.row.now) (take_all at.loop-i.i a.front.now c.loop-i-test.false)
 
-slice_write_row : tie.Need-slice-write-row invariant_loop decreases_loop
+slice_write_row : tie.Need-bounds-row-i invariant_loop decreases_loop
 slice_write_row c = let e = kept c.before.before in search rules
 
-same_length : tie.Need-same-length invariant_loop decreases_loop
+same_length : tie.Need-shape_of-row invariant_loop decreases_loop
 same_length c = kept c.before
 
 pub put_spec : {M : Type 1} → statement M

@@ -15,30 +15,30 @@ abbrev conditions : tie.Start → List Condition
 conditions c = mean_checks c.args.upper c.args.lower
 
 -- 41
-fraction_due : (c : tie.After-is-wrong-mean) → Due (conditions c.before) 0 c.is-wrong-mean.result
-fraction_due c = due_first c.is-wrong-mean.ensures
+fraction_due : (c : tie.After-is_wrong_mean) → Due (conditions c.before) 0 c.is_wrong_mean.result
+fraction_due c = due_first c.is_wrong_mean.ensures
 
-returns : tie.Need-returns
-returns c = sym (mean_is _ _ (due_refuses (fraction_due c.before) c.if1.true))
+returns : tie.Need-returns-then-is_wrong_mean
+returns c = sym (mean_is _ _ (due_refuses (fraction_due c.before) c.if-is_wrong_mean.true))
 
-rest : (c : tie.Else1) → Rest c.before.before.args.upper c.before.before.args.lower
-rest c = rest_of _ _ (sym c.before.is-wrong-mean.ensures ∙ c.if1.false)
+rest : (c : tie.Else-is_wrong_mean) → Rest c.args.upper c.args.lower
+rest c = rest_of _ _ (sym c.is_wrong_mean.ensures ∙ c.if-is_wrong_mean.false)
 
 -- what the loop gives is the definition's
-product_is : (c : tie.After-repeated) → let a = c.before.before.before.before.args in
+product_is : (c : tie.After-repeated) → let a = c.args in
     c.repeated.result ≡ of_mean a.upper a.lower
 unfolding of_mean
-product_is c = c.repeated.ensures ∙ ap (repeated _ _) c.before.partial-sums.ensures
+product_is c = c.repeated.ensures ∙ ap (repeated _ _) c.partial_sums-rest.ensures
 
-start_from_requires : tie.Need-start-from-requires
+start_from_requires : tie.Need-start_from-requires
 unfolding of_mean
 start_from_requires c κs = rw (product_is c) (repeated_in_unit exp_minus_one exp_proper _ _ (rest_in_unit _ _ (rest c.before.before)))
 
-returns_2 : tie.Need-returns-2
+returns_2 : tie.Need-returns
 returns_2 c =
     let e = c.before.before.before in
-    c.start-from.ensures ∙ ap (started accepted) (product_is c.before)
-    ∙ sym (mean_is _ _ (due_accepts refl (fraction_due e.before) e.if1.false))
+    c.start_from.ensures ∙ ap (started accepted) (product_is c.before)
+    ∙ sym (mean_is _ _ (due_accepts refl (fraction_due e.before) e.if-is_wrong_mean.false))
 
 pub mean_spec : {M : Type 1} → statement M
 mean_spec =
@@ -50,6 +50,6 @@ mean_spec =
     (λ c κs. ((rest c).below, (rest c).lower_most))
     (λ c. search rules)
     (λ c. (rest c.before).lower_pos)
-    (λ c κs. (exp_proper, rw c.partial-sums.ensures (rest_in_unit _ _ (rest c.before))))
+    (λ c κs. (exp_proper, rw c.partial_sums-rest.ensures (rest_in_unit _ _ (rest c.before))))
     start_from_requires
     returns_2)

@@ -21,44 +21,44 @@ abbrev conditions : tie.Start → List Condition
 conditions c = trials_checks c.args.upper c.args.lower c.args.trials
 
 -- 41, the lower number
-lower_due : (c : tie.After-is-wrong-lower) → Due (conditions c.before) 0 c.is-wrong-lower.result
-lower_due c = due_first c.is-wrong-lower.ensures
+lower_due : (c : tie.After-is_wrong_lower) → Due (conditions c.before) 0 c.is_wrong_lower.result
+lower_due c = due_first c.is_wrong_lower.ensures
 
-returns : tie.Need-returns
-returns c = sym (trials_is _ _ _ (due_refuses (lower_due c.before) c.if1.true))
+returns : tie.Need-returns-then-is_wrong_lower
+returns c = sym (trials_is _ _ _ (due_refuses (lower_due c.before) c.if-is_wrong_lower.true))
 
 -- 42, the chance
-chance_due : (c : tie.Else1) → let a = c.before.before.args in Due (conditions c.before.before) 1 (leb a.lower a.upper)
-chance_due c = due_next (lower_due c.before) c.if1.false refl
+chance_due : (c : tie.Else-is_wrong_lower) → let a = c.args in Due (conditions c.before.before) 1 (leb a.lower a.upper)
+chance_due c = due_next (lower_due c.before) c.if-is_wrong_lower.false refl
 
-returns_2 : tie.Need-returns-2
-returns_2 c = sym (trials_is _ _ _ (due_refuses (chance_due c.before) (le-leb _ _ c.if2.true)))
+returns_2 : tie.Need-returns-then-lower-upper
+returns_2 c = sym (trials_is _ _ _ (due_refuses (chance_due c.before) (le-leb _ _ c.if-lower-upper.true)))
 
 -- 43, the number of trials
-trials_due : (c : tie.After-is-outside) → Due (conditions c.before.before.before.before) 2 c.is-outside.result
-trials_due c = due_next (chance_due c.before.before) (lt-leb _ _ c.before.if2.false) c.is-outside.ensures
+trials_due : (c : tie.After-is_outside) → Due (conditions c.before.before.before.before) 2 c.is_outside.result
+trials_due c = due_next (chance_due c.before.before) (lt-leb _ _ c.if-lower-upper.false) c.is_outside.ensures
 
-returns_3 : tie.Need-returns-3
-returns_3 c = sym (trials_is _ _ _ (due_refuses (trials_due c.before) c.if3.true))
+returns_3 : tie.Need-returns-then-is_outside
+returns_3 c = sym (trials_is _ _ _ (due_refuses (trials_due c.before) c.if-is_outside.true))
 
 -- and where no condition holds, the start
-proper : (c : tie.Else3) → let a = c.before.before.before.before.before.args in Proper (exactly (a.lower - a.upper) a.lower)
-proper c = no_claim_proper _ _ ((trials_due c.before).earlier 0 (lit< tt)) c.before.before.if2.false
+proper : (c : tie.Else-is_outside) → let a = c.args in Proper (exactly (a.lower - a.upper) a.lower)
+proper c = no_claim_proper _ _ ((trials_due c.before).earlier 0 (lit< tt)) c.if-lower-upper.false
 
-power_is : (c : tie.After-repeated) → let a = c.before.before.before.before.before.before.before.args in
+power_is : (c : tie.After-repeated) → let a = c.args in
     c.repeated.result ≡ of_trials a.upper a.lower a.trials
 unfolding of_trials
-power_is c = c.repeated.ensures ∙ ap (repeated _ _) c.before.certain.ensures
+power_is c = c.repeated.ensures ∙ ap (repeated _ _) c.certain.ensures
 
-start_from_requires : tie.Need-start-from-requires
+start_from_requires : tie.Need-start_from-requires
 unfolding of_trials
 start_from_requires c κs = rw (power_is c) (repeated_in_unit _ (proper c.before.before) _ certain certain_in_unit)
 
-returns_4 : tie.Need-returns-4
+returns_4 : tie.Need-returns
 returns_4 c =
     let e = c.before.before.before in
-    c.start-from.ensures ∙ ap (started accepted) (power_is c.before)
-    ∙ sym (trials_is _ _ _ (due_accepts refl (trials_due e.before) e.if3.false))
+    c.start_from.ensures ∙ ap (started accepted) (power_is c.before)
+    ∙ sym (trials_is _ _ _ (due_accepts refl (trials_due e.before) e.if-is_outside.false))
 
 pub trials_spec : {M : Type 1} → statement M
 trials_spec =

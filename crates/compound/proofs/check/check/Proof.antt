@@ -50,89 +50,89 @@ refuses {reason = reason} e h = (
 )
 
 -- 1, k
-order_due : (c : tie.After-is-outside) → Due (conditions c.before.before) 0 c.is-outside.result
-order_due c = due_first c.is-outside.ensures
+order_due : (c : tie.After-is_outside) → Due (conditions c.before.before) 0 c.is_outside.result
+order_due c = due_first c.is_outside.ensures
 
-returns : tie.Need-returns
-returns c = refuses c.refused.ensures (due_refuses (order_due c.before.before) c.before.if1.true)
+returns : tie.Need-returns-then-is_outside
+returns c = refuses c.refused.ensures (due_refuses (order_due c.before.before) c.if-is_outside.true)
 
 -- 2, D
-divisor_due : (c : tie.After-is-outside2) → Due (conditions c.before.before.before.before) 1 c.is-outside2.result
-divisor_due c = due_next (order_due c.before.before) c.before.if1.false c.is-outside2.ensures
+divisor_due : (c : tie.After-is_outside-2) → Due (conditions c.before.before.before.before) 1 c.is_outside-2.result
+divisor_due c = due_next (order_due c.before.before) c.if-is_outside.false c.is_outside-2.ensures
 
-returns_2 : tie.Need-returns-2
-returns_2 c = refuses c.refused2.ensures (due_refuses (divisor_due c.before.before) c.before.if2.true)
+returns_2 : tie.Need-returns-then-is_outside-2
+returns_2 c = refuses c.refused-then-is_outside-2.ensures (due_refuses (divisor_due c.before.before) c.if-is_outside-2.true)
 
 -- 3, a term, with its place
-term_due : (c : tie.After-first-wrong-term)
-    → Due (conditions c.before.before.before.before.before.before) 2 (ltb c.first-wrong-term.result most_order)
-term_due c = due_next (divisor_due c.before.before) c.before.if2.false (rw c.first-wrong-term.ensures)
+term_due : (c : tie.After-first_wrong_term-term)
+    → Due (conditions c.before.before.before.before.before.before.before) 2 (ltb c.first_wrong_term-term.result most_order)
+term_due c = due_next (divisor_due c.before.before.before) c.if-is_outside-2.false (rw c.first_wrong_term-term.ensures)
 
-returns_3 : tie.Need-returns-3
+returns_3 : tie.Need-returns-then-term
 returns_3 c =
     let call = c.before.before in
-    refuses c.refused3.ensures (rw call.first-wrong-term.ensures (due_refuses (term_due call) (lt-ltb _ _ c.before.if3.true)))
+    refuses c.refused-then-term.ensures (rw call.first_wrong_term-term.ensures (due_refuses (term_due call) (lt-ltb _ _ c.if-term.true)))
 
 -- 4, start
-start_due : (c : tie.After-is-wrong-start)
-    → Due (conditions c.before.before.before.before.before.before.before.before) 3 c.is-wrong-start.result
-start_due c = due_next (term_due c.before.before) (le-ltb _ _ c.before.if3.false) c.is-wrong-start.ensures
+start_due : (c : tie.After-is_wrong_start)
+    → Due (conditions c.before.before.before.before.before.before.before.before.before.before) 3 c.is_wrong_start.result
+start_due c = due_next (term_due c.before.before.before) (le-ltb _ _ c.if-term.false) c.is_wrong_start.ensures
 
-returns_4 : tie.Need-returns-4
-returns_4 c = refuses c.refused4.ensures (due_refuses (start_due c.before.before) c.before.if4.true)
+returns_4 : tie.Need-returns-then-is_wrong_start
+returns_4 c = refuses c.refused-then-is_wrong_start.ensures (due_refuses (start_due c.before.before) c.if-is_wrong_start.true)
 
 -- 5, m
-abbrev start : tie.After-is-outside3 → tie.Start
-start c = c.before.before.before.before.before.before.before.before.before.before
+abbrev start : tie.After-is_outside-3 → tie.Start
+start c = c.before.before.before.before.before.before.before.before.before.before.before.before
 
-severities_due : (c : tie.After-is-outside3) → Due (conditions (start c)) 4 c.is-outside3.result
-severities_due c = due_next (start_due c.before.before) c.before.if4.false c.is-outside3.ensures
+severities_due : (c : tie.After-is_outside-3) → Due (conditions (start c)) 4 c.is_outside-3.result
+severities_due c = due_next (start_due c.before.before) c.if-is_wrong_start.false c.is_outside-3.ensures
 
-returns_5 : tie.Need-returns-5
-returns_5 c = refuses c.refused5.ensures (due_refuses (severities_due c.before.before) c.before.if5.true)
+returns_5 : tie.Need-returns-then-is_outside-3
+returns_5 c = refuses c.refused-then-is_outside-3.ensures (due_refuses (severities_due c.before.before) c.if-is_outside-3.true)
 
 -- 6, W: the code has its sum as far as the cap
-abbrev row : tie.After-total-weight → List ℕ
+abbrev row : tie.After-total_weight-row → List ℕ
 row c = (start c.before.before).args.weights.now
 
-abbrev sum : tie.After-with-zero → ℕ
+abbrev sum : tie.After-with_zero-total → ℕ
 sum c = all_weight (start c.before.before.before).args.job.zero (row c.before)
 
-with_zero_requires : tie.Need-with-zero-requires
-with_zero_requires c κs = omega (arith, c.total-weight.ensures)
+with_zero_requires : tie.Need-with_zero-total-requires
+with_zero_requires c κs = omega (arith, c.total_weight-row.ensures)
 
-sum_is : (c : tie.After-with-zero) → c.with-zero.result ≡ min (sum c) 1001
-sum_is c = omega (arith, c.with-zero.ensures, c.before.total-weight.ensures)
+sum_is : (c : tie.After-with_zero-total) → c.with_zero-total.result ≡ min (sum c) 1001
+sum_is c = omega (arith, c.with_zero-total.ensures, c.total_weight-row.ensures)
 
-weights_due_lem : (c : tie.After-is-outside4) → Due (conditions (start c.before.before.before.before)) 5 c.is-outside4.result
-weights_due_lem c = due_next (severities_due c.before.before.before.before) c.before.before.before.if5.false
-    (rw (sum_is c.before) at c.is-outside4.ensures ∙ capped_outside (sum c.before))
+weights_due_lem : (c : tie.After-is_outside-4) → Due (conditions (start c.before.before.before.before)) 5 c.is_outside-4.result
+weights_due_lem c = due_next (severities_due c.before.before.before.before) c.if-is_outside-3.false
+    (rw (sum_is c.before) at c.is_outside-4.ensures ∙ capped_outside (sum c.before))
 
-returns_6 : tie.Need-returns-6
-returns_6 c = refuses c.refused6.ensures (due_refuses (weights_due_lem c.before.before) c.before.if6.true)
+returns_6 : tie.Need-returns-then-is_outside-4
+returns_6 c = refuses c.refused-then-is_outside-4.ensures (due_refuses (weights_due_lem c.before.before) c.if-is_outside-4.true)
 
 -- the cap leaves a sum whole that is within the limits
-module _ (c : tie.Else6) where
+module _ (c : tie.Else-is_outside-4) where
   sum_most : sum c.before.before ≤ 1000
-  sum_most = (within 1 1000 (sum c.before.before) (sym (weights_due_lem c.before).test ∙ c.if6.false)).1
+  sum_most = (within 1 1000 (sum c.before.before) (sym (weights_due_lem c.before).test ∙ c.if-is_outside-4.false)).1
 
-  sum_whole : c.before.before.with-zero.result ≡ sum c.before.before
+  sum_whole : c.with_zero-total.result ≡ sum c.before.before
   sum_whole = omega (arith, sum_is c.before.before, sum_most)
 
 -- 11, a weight at 0 with an order above 1
-zero_order_due : (c : tie.After-is-zero-order)
-    → Due (conditions (start c.before.before.before.before.before.before)) 6 c.is-zero-order.result
-zero_order_due c = due_next (weights_due_lem c.before.before) c.before.if6.false c.is-zero-order.ensures
+zero_order_due : (c : tie.After-is_zero_order)
+    → Due (conditions (start c.before.before.before.before.before.before)) 6 c.is_zero_order.result
+zero_order_due c = due_next (weights_due_lem c.before.before) c.if-is_outside-4.false c.is_zero_order.ensures
 
-returns_7 : tie.Need-returns-7
-returns_7 c = refuses c.refused7.ensures (due_refuses (zero_order_due c.before.before) c.before.if7.true)
+returns_7 : tie.Need-returns-then-is_zero_order
+returns_7 c = refuses c.refused-then-is_zero_order.ensures (due_refuses (zero_order_due c.before.before) c.if-is_zero_order.true)
 
 -- 12, the divisor of row 0
-abbrev begun : tie.After-thinned-divisor → tie.Start
+abbrev begun : tie.After-thinned_divisor-first → tie.Start
 begun c = start c.before.before.before.before.before.before.before.before.before.before
 
 -- A_1, which the call takes from the array
-module _ (c : tie.Else6) where
+module _ (c : tie.Else-is_outside-4) where
   abbrev law : Law
   law = (start c.before.before.before.before.before).args.job.law
 
@@ -142,7 +142,7 @@ module _ (c : tie.Else6) where
   term_fits : SFits w64 (get_or law.a 0 (pos 0))
   term_fits = size_fits w64 (get_or law.a 0 (pos 0)) (omega (arith, term_small))
 
-thinned_divisor_requires : tie.Need-thinned-divisor-requires
+thinned_divisor_requires : tie.Need-thinned_divisor-first-requires
 thinned_divisor_requires c κs =
     let e = c.before.before.before.before in (
       (within 1 1000 (law e).divisor ((weights_due_lem e.before).earlier 1 (lit< tt))).1,
@@ -151,55 +151,55 @@ thinned_divisor_requires c κs =
       rw (sum_whole e) (sum_most e),
     )
 
-first_is : (c : tie.After-thinned-divisor) → c.thinned-divisor.result ≡ job_divisor (begun c).args.job (begun c).args.weights.now
+first_is : (c : tie.After-thinned_divisor-first) → c.thinned_divisor-first.result ≡ job_divisor (begun c).args.job (begun c).args.weights.now
 first_is c =
     let e = c.before.before.before.before.before in
-    rw (to_z-of_z (term_fits e)) at c.thinned-divisor.ensures
+    rw (to_z-of_z (term_fits e)) at c.thinned_divisor-first.ensures
     ∙ ap (λ (w : ℕ). thinned_divisor (law e).divisor (get_or (law e).a 0 (pos 0)) (begun c).args.job.zero w) (sum_whole e)
 
-divisor_zero_due : (c : tie.After-thinned-divisor) → Due (conditions (begun c)) 7 (eqb c.thinned-divisor.result 0)
+divisor_zero_due : (c : tie.After-thinned_divisor-first) → Due (conditions (begun c)) 7 (eqb c.thinned_divisor-first.result 0)
 divisor_zero_due c =
-    due_next (zero_order_due c.before.before.before.before) c.before.before.before.if7.false
+    due_next (zero_order_due c.before.before.before.before) c.if-is_zero_order.false
     (ap (λ (n : ℕ). eqb n 0) (first_is c))
 
-returns_8 : tie.Need-returns-8
-returns_8 c = refuses c.refused8.ensures (due_refuses (divisor_zero_due c.before.before) (eq-eqb _ _ c.before.if8.true))
+returns_8 : tie.Need-returns-then-first-eq0
+returns_8 c = refuses c.refused-then-first-eq0.ensures (due_refuses (divisor_zero_due c.before.before) (eq-eqb _ _ c.if-first-eq0.true))
 
 -- 13, only zeros
-abbrev summed : tie.Else8 → tie.After-total-weight
+abbrev summed : tie.Else-first-eq0 → tie.After-total_weight-row
 summed c = c.before.before.before.before.before.before.before.before.before
 
-only_zeros_due : (c : tie.Else8) → Due (conditions (begun c.before)) 8 (eqb (summed c).total-weight.result 0)
-only_zeros_due c = due_next (divisor_zero_due c.before) (ne_eqb _ _ c.if8.false)
-    (ap (λ (n : ℕ). eqb n 0) (summed c).total-weight.ensures ∙ capped_zero (total_weight (row (summed c))))
+only_zeros_due : (c : tie.Else-first-eq0) → Due (conditions (begun c.before)) 8 (eqb (summed c).total_weight-row.result 0)
+only_zeros_due c = due_next (divisor_zero_due c.before) (ne_eqb _ _ c.if-first-eq0.false)
+    (ap (λ (n : ℕ). eqb n 0) (summed c).total_weight-row.ensures ∙ capped_zero (total_weight (row (summed c))))
 
-returns_9 : tie.Need-returns-9
-returns_9 c = refuses c.refused9.ensures (due_refuses (only_zeros_due c.before.before) (eq-eqb _ _ c.before.if9.true))
+returns_9 : tie.Need-returns-then-row-eq0
+returns_9 c = refuses c.refused-then-row-eq0.ensures (due_refuses (only_zeros_due c.before.before) (eq-eqb _ _ c.if-row-eq0.true))
 
 -- 7, X
-last_due : (c : tie.After-struct-known) → let s = begun c.before.before.before in
+last_due : (c : tie.After-struct_known-1) → let s = begun c.before.before.before in
     Due (conditions s) 9 (ltb most_last s.args.job.last)
-last_due c = due_next (only_zeros_due c.before.before) (ne_eqb _ _ c.before.if9.false) refl
+last_due c = due_next (only_zeros_due c.before.before) (ne_eqb _ _ c.if-row-eq0.false) refl
 
-returns_10 : tie.Need-returns-10
-returns_10 c = refuses c.refused10.ensures (due_refuses (last_due c.before.before) (lt-ltb _ _ c.before.if10.true))
+returns_10 : tie.Need-returns-then-job
+returns_10 c = refuses c.refused-then-job.ensures (due_refuses (last_due c.before.before) (lt-ltb _ _ c.if-job.true))
 
 -- 8, a row
-room_due : (c : tie.After-is-too-short)
-    → Due (conditions (begun c.before.before.before.before.before)) 10 c.is-too-short.result
-room_due c = due_next (last_due c.before.before) (le-ltb _ _ c.before.if10.false) c.is-too-short.ensures
+room_due : (c : tie.After-is_too_short)
+    → Due (conditions (begun c.before.before.before.before.before)) 10 c.is_too_short.result
+room_due c = due_next (last_due c.before.before) (le-ltb _ _ c.if-job.false) c.is_too_short.ensures
 
-returns_11 : tie.Need-returns-11
-returns_11 c = refuses c.refused11.ensures (due_refuses (room_due c.before.before) c.before.if11.true)
+returns_11 : tie.Need-returns-then-is_too_short
+returns_11 c = refuses c.refused-then-is_too_short.ensures (due_refuses (room_due c.before.before) c.if-is_too_short.true)
 
 -- and where no condition holds, the acceptance with the divisors
 abbrev divisors : ℕ → ℕ → Divisors
 divisors first further = record { first = first; further = further }
 
-returns_12 : tie.Need-returns-12
+returns_12 : tie.Need-returns
 returns_12 c =
     let call = c.before.before.before.before.before.before in (
-      sym (due_accepts refl (room_due c.before) c.if11.false),
+      sym (due_accepts refl (room_due c.before) c.if-is_too_short.false),
       λ accepts. ap₂ divisors (first_is call) (sum_whole call.before.before.before.before.before),
     )
 

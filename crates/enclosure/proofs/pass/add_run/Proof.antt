@@ -14,25 +14,25 @@ sum_of : tie.Start → Entry
 sum_of s = plus s.args.sums (run_sums s.args.factor s.args.run.from s.args.run.to s.args.x s.args.weights.now
     (entry_of s.args.low.now s.args.high.now s.args.bound.now))
 
-run_sums_requires : tie.Need-run-sums-requires
+run_sums_requires : tie.Need-run_sums-opposite-requires
 run_sums_requires c κs =
     let s = c.before.before.before in
-    (rw c.negate.ensures (rw c.before.if1.true at s.requires.0.1), s.requires.1.0)
+    (rw c.negate.ensures (rw c.if-run.true at s.requires.0.1), s.requires.1.0)
 
-below : (c : tie.After-run-sums)
-    → minus c.before.before.before.before.args.sums c.run-sums.result ≡ sum_of c.before.before.before.before
+below : (c : tie.After-run_sums-opposite)
+    → minus c.args.sums c.run_sums-opposite.result ≡ sum_of c.before.before.before.before
 unfolding sum_of
 below c = let s = c.before.before.before.before in
-    ap (λ (e : Entry). minus s.args.sums e) (rw c.before.negate.ensures at c.run-sums.ensures)
+    ap (λ (e : Entry). minus s.args.sums e) (rw c.negate.ensures at c.run_sums-opposite.ensures)
     ∙ ap (plus s.args.sums) (opposite_sums s.args.factor _ _ s.args.x s.args.weights.now
     (entry_of s.args.low.now s.args.high.now s.args.bound.now))
 
-run_sums_requires_2 : tie.Need-run-sums-requires-2
-run_sums_requires_2 c κs = let s = c.before.before in (rw c.if1.false at s.requires.0.1, s.requires.1.0)
+run_sums_requires_2 : tie.Need-run_sums-own-requires
+run_sums_requires_2 c κs = let s = c.before.before in (rw c.if-run.false at s.requires.0.1, s.requires.1.0)
 
-above : (c : tie.After-run-sums2) → plus c.before.before.before.args.sums c.run-sums2.result ≡ sum_of c.before.before.before
+above : (c : tie.After-run_sums-own) → plus c.args.sums c.run_sums-own.result ≡ sum_of c.before.before.before
 unfolding sum_of
-above c = ap (plus c.before.before.before.args.sums) c.run-sums2.ensures
+above c = ap (plus c.args.sums) c.run_sums-own.ensures
 
 pub add_run_spec : {M : Type 1} → statement M
 unfolding sum_of
@@ -41,8 +41,8 @@ add_run_spec =
     (tie.spec
     (λ c κs. search rules)
     run_sums_requires
-    (λ c κs. subst EntryFits (sym (below c)) c.before.before.before.before.requires.1.1)
+    (λ c κs. subst EntryFits (sym (below c)) c.requires.1.1)
     (λ c. c.subtract.ensures ∙ below c.before)
     run_sums_requires_2
-    (λ c κs. subst EntryFits (sym (above c)) c.before.before.before.requires.1.1)
+    (λ c κs. subst EntryFits (sym (above c)) c.requires.1.1)
     (λ c. c.add.ensures ∙ above c.before))

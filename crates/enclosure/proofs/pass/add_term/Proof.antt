@@ -17,7 +17,7 @@ use Rattle.enclosure.proofs.RunByRun.{so_far, run_room, run_next, run_fits}
 use Rattle.enclosure.proofs.pass.add_term.Statement.{statement}
 use Rattle.enclosure.proofs.pass.add_term.Tie as tie
 
-module _ (c : tie.After-first-run) where
+module _ (c : tie.After-first_run-first) where
   abbrev start : tie.Start
   start = c.before.before.before
 
@@ -27,13 +27,13 @@ module _ (c : tie.After-first-run) where
   -- the sums after n severities
   abbrev after : ℕ → Entry
   after = so_far start.args.sums start.args.factor start.args.x start.args.weights.now
-      (entry_of start.args.low.now start.args.high.now start.args.bound.now) start.pre.0
+      (entry_of start.args.low.now start.args.high.now start.args.bound.now) start.requires.0
 
   abbrev first : Run
-  first = c.first_run.result
+  first = c.first_run-first.result
 
   is_first : FirstRun start.args.factor last first
-  is_first = rw c.before.smaller.ensures at c.first_run.ensures
+  is_first = rw c.smaller-last.ensures at c.first_run-first.ensures
 
   before_first : after first.from ≡ start.args.sums
   before_first = ap after is_first.starts ∙ accumulate_zero _ _ _
@@ -41,12 +41,12 @@ module _ (c : tie.After-first-run) where
   abbrev second : Run
   second = record { from = first.to; to = last; negative = not first.negative }
 
-first_run_requires : tie.Need-first-run-requires
+first_run_requires : tie.Need-first_run-first-requires
 first_run_requires c κs =
     let s = c.before.before in
-    (factor_small _ _ _ _ _ s.requires.0, omega (arith, c.smaller.ensures, s.requires.0.x_small))
+    (factor_small _ _ _ _ _ s.requires.0, omega (arith, c.smaller-last.ensures, s.requires.0.x_small))
 
-add_run_requires : tie.Need-add-run-requires
+add_run_requires : tie.Need-add_run-sums-requires
 add_run_requires c κs =
     let h = (start c).requires.0 in
     let run = is_first c in (
@@ -60,38 +60,38 @@ add_run_requires c κs =
       ),
     )
 
-first_sums : (c : tie.After-add-run) → c.add-run.result ≡ after c.before (first c.before).to
+first_sums : (c : tie.After-add_run-sums) → c.add_run-sums.result ≡ after c.before (first c.before).to
 first_sums c = let d = c.before in
-    (rw (sym (before_first d)) at c.add-run.ensures)
+    (rw (sym (before_first d)) at c.add_run-sums.ensures)
     ∙ run_next _ _ _ _ _ (start d).requires.0 (first d) (omega (arith, (is_first d).starts)) (is_first d).within
 
-returns : tie.Need-returns
+returns : tie.Need-returns-then-first-last
 returns c =
     let d = c.before.before in
-    let all : (first d.before).to ≡ last d.before = search (rules, d.before.before.smaller.ensures) in
+    let all : (first d.before).to ≡ last d.before = search (rules, d.smaller-last.ensures) in
     first_sums d ∙ ap (after d.before) all
 
-add_run_requires_2 : tie.Need-add-run-requires-2
+add_run_requires_2 : tie.Need-add_run-requires
 add_run_requires_2 c κs =
     let d = c.before.before.before in
     let e = d.before in
     let s = start e in
     let run = is_first e in
-    let h = s.pre.0 in
-    rw (e.before.smaller.ensures, first_sums d) (
+    let h = s.requires.0 in
+    rw (e.smaller-last.ensures, first_sums d) (
       (
         factor_small _ _ _ _ _ h,
         run_room _ _ _ _ _ h (second e) run.within (le_refl _)
             (λ y l k. other_sign s.args.factor (first e).negative y (run.behind y l k)),
       ),
-      (s.pre.1, run_fits _ _ _ _ _ h (second e) run.within (le_refl _)),
+      (s.requires.1, run_fits _ _ _ _ _ h (second e) run.within (le_refl _)),
     )
 
-returns_2 : tie.Need-returns-2
+returns_2 : tie.Need-returns
 returns_2 c =
     let d = c.before.before.before.before in
     let e = d.before in
-    (rw (e.before.smaller.ensures, first_sums d) at c.add-run2.ensures)
+    (rw (e.smaller-last.ensures, first_sums d) at c.add_run.ensures)
     ∙ run_next _ _ _ _ _ (start e).requires.0 (second e) (is_first e).within (le_refl _)
 
 pub add_term_spec : {M : Type 1} → statement M

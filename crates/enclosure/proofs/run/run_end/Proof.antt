@@ -19,16 +19,16 @@ use Rattle.enclosure.proofs.Sizes.{slope_fits, line_size}
 use Rattle.enclosure.proofs.run.run_end.Statement.{statement}
 use Rattle.enclosure.proofs.run.run_end.Tie as tie
 
-returns : tie.Need-returns
+returns : tie.Need-returns-then-factor-ge0
 returns c =
     let s = c.before.before.before in
     let f = s.args.factor in
-    let rises : pos 0 ≤ℤ f.slope = le_z_yes (rw (rw (to_z-of_z (slope_fits f s.pre.0)) at c.if1.taken) tt) in
+    let rises : pos 0 ≤ℤ f.slope = le_z_yes (rw (rw (to_z-of_z (slope_fits f s.requires.0)) at c.if-factor-ge0.true) tt) in
     record {
       starts = refl;
       within = NL.le_refl _;
-      sign = s.pre.2;
-      inside = λ y l k. line_later f.slope f.constant 1 y rises l s.pre.2;
+      sign = s.requires.2;
+      inside = λ y l k. line_later f.slope f.constant 1 y rises l s.requires.2;
       behind = λ y l k. absurd (omega arith);
     }
 
@@ -37,7 +37,7 @@ below : (s : ℤ) → le_z (pos 0) s ≡ false → (s <ℤ pos 0) × T (non_neg 
 below (pos n) e = absurd (true≢false (sym (leb-zero n) ∙ e))
 below (negsuc n) e = (lt_z_yes tt, tt, omega arith)
 
-module _ (c : tie.After-line-at) where
+module _ (c : tie.After-line_at) where
   abbrev start : tie.Start
   start = c.before.before.before.before
 
@@ -49,46 +49,46 @@ module _ (c : tie.After-line-at) where
   line = line_at start.args.factor 1
 
   line_small : nat_abs line ≤ 1000000
-  line_small = line_size start.args.factor start.pre.0 1 (omega arith)
+  line_small = line_size start.args.factor start.requires.0 1 (omega arith)
 
-  line_is : to_z w64 (of_z w64 c.line_at_lem.result) ≡ line
-  line_is = held w64 c.line_at_lem.ok c.line_at_lem.ensures
+  line_is : to_z w64 (of_z w64 c.line_at.result) ≡ line
+  line_is = held w64 c.line_at.type_inv c.line_at.ensures
 
   falls : (slope <ℤ pos 0) × T (non_neg (neg_ℤ slope)) × (0 < nat_abs slope)
-  falls = below slope (rw (to_z-of_z (slope_fits start.args.factor start.pre.0)) at c.before.if1.left)
+  falls = below slope (rw (to_z-of_z (slope_fits start.args.factor start.requires.0)) at c.if-factor-ge0.false)
 
   fall_is : to_z w64 (of_z w64 (pos 0 -ℤ to_z w64 (of_z w64 slope))) ≡ neg_ℤ slope
-  fall_is = negative_held w64 slope (omega (arith, start.pre.0.slope_small))
+  fall_is = negative_held w64 slope (omega (arith, start.requires.0.slope_small))
 
   -- how often the slope goes into the line, as the code has it
-  further_is : nat_abs (to_z w64 (of_z w64 c.line_at_lem.result)) / nat_abs (to_z w64 (of_z w64 (pos 0 -ℤ to_z w64 (of_z w64 slope))))
+  further_is : nat_abs (to_z w64 (of_z w64 c.line_at.result)) / nat_abs (to_z w64 (of_z w64 (pos 0 -ℤ to_z w64 (of_z w64 slope))))
       ≡ nat_abs line / nat_abs slope
   further_is = rw (line_is, fall_is, size_neg slope)
 
-cast_further : tie.Need-cast-further
-cast_further c = rw (line_is c) (yes_non_neg (start c).pre.2, record { fits = omega (arith, line_small c) })
+cast_further : tie.Need-overflow_cast-further
+cast_further c = rw (line_is c) (yes_non_neg (start c).requires.2, record { fits = omega (arith, line_small c) })
 
-sub_further : tie.Need-sub-further
+sub_further : tie.Need-overflow_sub-further
 sub_further c =
     let s = start c.before.before in
-    negative_local_fits w64 s.args.factor.slope (omega (arith, s.pre.0.slope_small))
+    negative_local_fits w64 s.args.factor.slope (omega (arith, s.requires.0.slope_small))
 
-cast_further_2 : tie.Need-cast-further-2
+cast_further_2 : tie.Need-overflow_cast-further-2
 cast_further_2 c =
     let d = c.before.before in
-    let small = (start d).pre.0.slope_small in
+    let small = (start d).requires.0.slope_small in
     rw (fall_is d) ((falls d).1, record { fits = omega (arith, size_neg (slope d)) })
 
-div_further : tie.Need-div-further
+div_further : tie.Need-nonzero_div-further
 div_further c = let d = c.before.before in rw (fall_is d, size_neg (slope d)) (falls d).2
 
-add_smaller : tie.Need-add-smaller
+add_smaller : tie.Need-overflow_add-further
 add_smaller c =
     let d = c.before.before in
     let quotient = NL.div-le_self (nat_abs (line d)) (nat_abs (slope d)) in
     rw (further_is d) (record { fits = omega (arith, line_small d) })
 
-returns_2 : tie.Need-returns-2
+returns_2 : tie.Need-returns
 returns_2 c =
     let d = c.before.before.before in
     let s = start d in
@@ -97,9 +97,9 @@ returns_2 c =
     record {
       starts = refl;
       within = omega arith;
-      sign = s.pre.2;
-      inside = λ y l k. line_as_far f.slope f.constant 1 y (falls d).0 s.pre.2 (omega arith);
-      behind = λ y l k. line_past f.slope f.constant 1 y (falls d).0 s.pre.2 (omega arith);
+      sign = s.requires.2;
+      inside = λ y l k. line_as_far f.slope f.constant 1 y (falls d).0 s.requires.2 (omega arith);
+      behind = λ y l k. line_past f.slope f.constant 1 y (falls d).0 s.requires.2 (omega arith);
     }
 
 pub run_end_spec : {M : Type 1} → statement M

@@ -19,9 +19,9 @@ fits s = size_fits w64 _ (omega (
       (line_size s.args.factor s.requires.0 s.args.y s.requires.1) s.requires.2,
 ))
 
-product_is : (c : tie.After-line-at) → let a = c.before.args in
-    to_z w64 (of_z w64 c.line_at_lem.result) *ℤ to_z w64 a.weight ≡ factor_of a.factor a.y a.weight
-product_is c = ap₂ ◌*ℤ◌ (held w64 c.line_at_lem.type-inv c.line_at_lem.ensures) (to_z_pos w64 (omega (arith, c.before.requires.2)))
+product_is : (c : tie.After-line_at) → let a = c.args in
+    to_z w64 (of_z w64 c.line_at.result) *ℤ to_z w64 a.weight ≡ factor_of a.factor a.y a.weight
+product_is c = ap₂ ◌*ℤ◌ (held w64 c.line_at.type_inv c.line_at.ensures) (to_z_pos w64 (omega (arith, c.requires.2)))
 
 pub factor_at_spec : {M : Type 1} → statement M
 factor_at_spec =

@@ -3,7 +3,7 @@ use borrow.Author.Rules.{rules}
 use borrow.Author.Tests.{not-true, not-false}
 use mathlib.Core.Path.{◌≡◌, sym, ap, ◌∙◌}
 use mathlib.Core.Bool.{true, false}
-use Prim.Native.Nat.{ℕ, ◌-◌, ◌≤◌}
+use Prim.Native.Nat.{ℕ, ◌-◌}
 use native.Mathlib.Omega.{arith}
 use lib.Dec.{lit≤}
 use Rattle.algebra.proofs.And.{and_yes, and_no}
@@ -25,27 +25,27 @@ module _ (s : tie.Start) where
       ap (λ (j : ℕ). used_at a.law a.weights.now (stored_lows a.places a.low.now a.work.now)
       (stored_highs a.places a.high.now a.work.now) (stored_marks a.places a.mark.now a.work.now) j a.x) e
 
-returns : tie.Need-returns
+returns : tie.Need-returns-then-not-divided
 returns c =
-    let divided = c.before.before.args.divided in
-    let left : divided ≡ false = not-true divided c.if1.true in
+    let divided = c.args.divided in
+    let left : divided ≡ false = not-true divided c.if-not-divided.true-raw in
     sym left ∙ and_no divided _ left
 
 -- nothing is left over
-nothing_left : (c : tie.Else1) → c.before.before.args.divided ≡ true
-nothing_left c = not-false c.before.before.args.divided c.if1.false
+nothing_left : (c : tie.Else-not-divided) → c.args.divided ≡ true
+nothing_left c = not-false c.args.divided c.if-not-divided.false-raw
 
-are_terms_exact_requires : tie.Need-are-terms-exact-requires
+are_terms_exact_requires : tie.Need-are_terms_exact-requires
 are_terms_exact_requires c κs =
     let s = c.before.before.before in
     ((s.requires.0.1, s.requires.0.2), (s.requires.1.0, s.requires.1.1))
 
-returns_2 : tie.Need-returns-2
+returns_2 : tie.Need-returns-then-row-eq0
 returns_2 c =
     let t = c.before in
-    c.are-terms-exact.ensures ∙ by_row t.before.before.before (sym t.if2.true) ∙ and_yes _ _ (nothing_left t.before)
+    c.are_terms_exact.ensures ∙ by_row t.before.before.before (sym t.if-row-eq0.true) ∙ and_yes _ _ (nothing_left t.before)
 
-is_row_exact_requires : tie.Need-is-row-exact-requires
+is_row_exact_requires : tie.Need-is_row_exact-requires
 is_row_exact_requires c κs =
     let d = c.before in
     let s = d.before.before.before in (
@@ -53,21 +53,21 @@ is_row_exact_requires c κs =
       (
         (
           omega (arith, s.requires.0.0, s.requires.0.1.order_most),
-          rw c.weight-alone.ensures (record { constant_small = lit≤ tt; slope_small = lit≤ tt }),
+          rw c.weight_alone.ensures (record { constant_small = lit≤ tt; slope_small = lit≤ tt }),
         ),
         s.requires.1.1.row (s.args.row - 1) (omega (arith, s.requires.0.0)),
       ),
     )
 
-returns_3 : tie.Need-returns-3
+returns_3 : tie.Need-returns
 returns_3 c =
     let d = c.before.before in
     let s = d.before.before.before in
     let a = s.args in
-    rw c.before.weight-alone.ensures at c.is-row-exact.ensures
+    rw c.weight_alone.ensures at c.is_row_exact.ensures
     ∙ used_next_lem a.weights.now a.x (stored_lows a.places a.low.now a.work.now)
     (stored_highs a.places a.high.now a.work.now) (stored_marks a.places a.mark.now a.work.now) (a.row - 1)
-    ∙ by_row s (sym (suc_pred a.row d.if2.false))
+    ∙ by_row s (sym (suc_pred a.row d.if-row-eq0.false))
     ∙ and_yes _ _ (nothing_left d.before)
 
 pub is_exact_spec : {M : Type 1} → statement M

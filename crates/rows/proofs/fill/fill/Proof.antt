@@ -23,26 +23,26 @@ use Rattle.rows.proofs.MarkProgress.{CurveKnown, known_none, known_stored, known
 use Rattle.rows.proofs.fill.fill.Statement.{statement}
 use Rattle.rows.proofs.fill.fill.Tie as tie
 
-abbrev invariant_loop : tie.invariant_loop
+abbrev invariant_loop : tie.invariant-loop-x
 invariant_loop job divisors weights low₀ high₀ bound₀ mark₀ work₀ places a b settled₀ x₀ low high bound mark work settled x = (x ≤ job.last + 1)
     × Reached job weights (lent_rows low₀ high₀ bound₀ work₀) x (lent_rows low high bound work)
     × MarksReached job weights mark₀ x mark work
     × CurveKnown job weights settled x
 
-abbrev decreases_loop : tie.decreases_loop
+abbrev decreases_loop : tie.decreases-loop-x
 decreases_loop job divisors weights low₀ high₀ bound₀ mark₀ work₀ places a b settled₀ x₀ low high bound mark work settled x = job.last + 1 - x
 
 limits : (c : tie.Start invariant_loop decreases_loop) → Limits c.args.job c.args.weights.now
 limits c = c.requires.0.1
 
-add_places : tie.Need-overflow-add-places invariant_loop decreases_loop
+add_places : tie.Need-overflow_add-places invariant_loop decreases_loop
 add_places c = record { fits = omega (arith, (limits c.before).last_most) }
 
-loop_holds : tie.Need-loop-init invariant_loop decreases_loop
+loop_holds : tie.Need-loop-x-init invariant_loop decreases_loop
 loop_holds c = (search rules, reached_first _ _ (limits c.before.before.before) _, marks_none _ _ _ _, known_none _ _)
 
 -- the rows at the start and where a total is reached
-module _ (c : tie.At-loop invariant_loop decreases_loop) where
+module _ (c : tie.At-loop-x invariant_loop decreases_loop) where
   abbrev start : tie.Start invariant_loop decreases_loop
   start = c.before.before.before.before
 
@@ -50,37 +50,37 @@ module _ (c : tie.At-loop invariant_loop decreases_loop) where
   lent₀ = lent_rows start.args.low.now start.args.high.now start.args.bound.now start.args.work.now
 
   abbrev lent : Lent
-  lent = lent_rows c.loop.low c.loop.high c.loop.bound c.loop.work
+  lent = lent_rows c.loop-x.low c.loop-x.high c.loop-x.bound c.loop-x.work
 
 -- the total of a turn is one of the job's
-below : (c : tie.In-loop invariant_loop decreases_loop) → c.before.loop.x < (start c.before).args.job.last + 1
-below c = omega (arith, c.loop-test.true)
+below : (c : tie.In-loop-x invariant_loop decreases_loop) → c.loop-x.x < (start c.before).args.job.last + 1
+below c = omega (arith, c.loop-x-test.true)
 
-fill_total_requires : tie.Need-fill-total-requires invariant_loop decreases_loop
+fill_total_requires : tie.Need-fill_total-found-requires invariant_loop decreases_loop
 fill_total_requires c κs =
     let turn = c.before.before.before.before.before.before.before in
     let loop = turn.before in
     let s = start loop in
-    let long : s.args.job.last + 1 ≤ length loop.loop.mark = omega (arith, loop.loop.invariant.2.kept.same_length, s.pre.0.2) in (
-      (s.pre.0.0, s.pre.0.1, long),
+    let long : s.args.job.last + 1 ≤ length loop.loop-x.mark = omega (arith, loop.loop-x.invariant.2.kept.same_length, s.requires.0.2) in (
+      (s.requires.0.0, s.requires.0.1, long),
       (
-        reached_ready _ _ (limits s) _ s.pre.1 _ _ loop.loop.invariant.1 (below turn),
+        reached_ready _ _ (limits s) _ s.requires.1 _ _ loop.loop-x.invariant.1 (below turn),
         (
           (refl, refl),
-          known_stored _ _ _ (limits s) (lent₀ loop) _ (lent loop) loop.loop.invariant.1 _ loop.loop.invariant.2 _ loop.loop.invariant.3,
+          known_stored _ _ _ (limits s) (lent₀ loop) _ (lent loop) loop.loop-x.invariant.1 _ loop.loop-x.invariant.2 _ loop.loop-x.invariant.3,
         ),
       ),
     )
 
 -- after the entries of a total are put
-module _ (c : tie.After-work invariant_loop decreases_loop) where
-  abbrev call : tie.After-fill-total invariant_loop decreases_loop
+module _ (c : tie.After-work-1 invariant_loop decreases_loop) where
+  abbrev call : tie.After-fill_total-found invariant_loop decreases_loop
   call = c.before.before.before.before.before
 
-  abbrev turn : tie.In-loop invariant_loop decreases_loop
+  abbrev turn : tie.In-loop-x invariant_loop decreases_loop
   turn = call.before.before.before.before.before.before.before.before
 
-  abbrev loop : tie.At-loop invariant_loop decreases_loop
+  abbrev loop : tie.At-loop-x invariant_loop decreases_loop
   loop = turn.before
 
   abbrev job : Job
@@ -90,40 +90,40 @@ module _ (c : tie.After-work invariant_loop decreases_loop) where
   weights = (start loop).args.weights.now
 
   abbrev x : ℕ
-  x = loop.loop.x
+  x = loop.loop-x.x
 
   abbrev filled : Lent
   filled =
-      let rows = call.fill-total.last.1.1.1.1.1.1.1 in
-      lent_rows rows.0 rows.1.0 rows.1.1.0 rows.1.1.1.1.0
+      let rows = call.fill_total-found.new in
+      lent_rows rows.low rows.high rows.bound rows.work
 
   abbrev here : Reached job weights (lent₀ loop) x (lent loop)
-  here = loop.loop.inv.1
+  here = loop.loop-x.invariant.1
 
   step : Advanced job weights (job.last + 1) x job.law.order (lent loop) filled
-  step = call.fill-total.ensures.1.0
+  step = call.fill_total-found.ensures.1.0
 
   abbrev marked : List ℤ
-  marked = call.fill-total.last.1.1.1.1.1.1.1.1.1.1.0
+  marked = call.fill_total-found.new.mark
 
-  marks_here : MarksReached job weights (start loop).args.mark.now x loop.loop.mark loop.loop.work
-  marks_here = loop.loop.inv.2
+  marks_here : MarksReached job weights (start loop).args.mark.now x loop.loop-x.mark loop.loop-x.work
+  marks_here = loop.loop-x.invariant.2
 
-  marks_step : MarksAdvanced job weights (job.last + 1) x job.law.order (stored (job.last + 1) (lent loop)) loop.loop.mark
-      loop.loop.work marked filled.work
-  marks_step = call.fill-total.ensures.1.1.0
+  marks_step : MarksAdvanced job weights (job.last + 1) x job.law.order (stored (job.last + 1) (lent loop)) loop.loop-x.mark
+      loop.loop-x.work marked filled.work
+  marks_step = call.fill_total-found.ensures.1.1.0
 
-  known_step : CurveKnown job weights call.fill-total.result.settled (x + 1)
-  known_step = known_next job weights _ (limits (start loop)) (lent₀ loop) x (lent loop) here _ marks_here (start loop).pre.1 _ _
-      loop.loop.inv.3 call.fill-total.ensures.1.1.1
+  known_step : CurveKnown job weights call.fill_total-found.result.settled (x + 1)
+  known_step = known_next job weights _ (limits (start loop)) (lent₀ loop) x (lent loop) here _ marks_here (start loop).requires.1 _ _
+      loop.loop-x.invariant.3 call.fill_total-found.ensures.1.1.1
 
-  found : call.fill-total.result.faults ≡ faults_below job.law.order (curve_rows job weights) x
-  found = call.fill-total.ensures.0
-      ∙ faults_curve job weights (limits (start loop)) (lent₀ loop) (start loop).pre.1 x (lent loop) here
+  found : call.fill_total-found.result.faults ≡ faults_below job.law.order (curve_rows job weights) x
+  found = call.fill_total-found.ensures.0
+      ∙ faults_curve job weights (limits (start loop)) (lent₀ loop) (start loop).requires.1 x (lent loop) here
 
   kept : RowsKept (x + 1) (job.last + 1) filled (lent₀ loop)
   kept =
-      step_kept job weights (limits (start loop)) (lent₀ loop) (start loop).pre.1 x (lent loop) here filled step (x + 1)
+      step_kept job weights (limits (start loop)) (lent₀ loop) (start loop).requires.1 x (lent loop) here filled step (x + 1)
       (le_refl (x + 1))
 
 -- whether the total has a fault
@@ -132,14 +132,14 @@ fault_is : (c : tie.After-either invariant_loop decreases_loop) → let w = c.be
 fault_is c = c.either.ensures ∙ ap (λ (f : Faults). f.range || f.bound) (found c.before.before)
 
 -- the run stops at it
-returns : tie.Need-returns invariant_loop decreases_loop
+returns : tie.Need-returns-then-either invariant_loop decreases_loop
 returns c =
     let w = c.before.before.before in
-    let fault = sym (fault_is c.before) ∙ c.if1.true in (
+    let fault = sym (fault_is c.before) ∙ c.if-either.true in (
       ap (λ (f : Faults). record { total = x w; range = f.range }) (found w)
           ∙ stop_here (job w) (weights w) (limits (start (loop w))) (x w) (below (turn w)) (here w).sound fault,
       (
-        filled_fault (job w) (weights w) (limits (start (loop w))) (lent₀ (loop w)) (start (loop w)).pre.1 (x w) (lent (loop w)) (here w)
+        filled_fault (job w) (weights w) (limits (start (loop w))) (lent₀ (loop w)) (start (loop w)).requires.1 (x w) (lent (loop w)) (here w)
             (filled w) (step w) (below (turn w)) fault,
         marks_fault (job w) (weights w) _ (limits (start (loop w))) (lent₀ (loop w)) (x w) (lent (loop w)) (here w) _ (marks_here w) _ _
             (marks_step w) (below (turn w)) fault,
@@ -147,38 +147,38 @@ returns c =
     )
 
 -- no fault, and the next total
-add_x : tie.Need-overflow-add-x invariant_loop decreases_loop
+add_x : tie.Need-overflow_step-x invariant_loop decreases_loop
 add_x c =
     let w = c.before.before.before.before in
     record { fits = omega (arith, below (turn w), (limits (start (loop w))).last_most) }
 
-loop_less : tie.Need-loop-smaller invariant_loop decreases_loop
+loop_less : tie.Need-loop-x-smaller invariant_loop decreases_loop
 loop_less c = omega (arith, below (turn c.before.before.before.before))
 
-loop_again : tie.Need-loop-preserved invariant_loop decreases_loop
+loop_again : tie.Need-loop-x-preserved invariant_loop decreases_loop
 loop_again c =
     let d = c.before in
     let w = d.before.before.before in (
       omega (arith, below (turn w)),
-      reached_next (job w) (weights w) (limits (start (loop w))) (lent₀ (loop w)) (start (loop w)).pre.1 (x w) (lent (loop w)) (here w)
-          (filled w) (step w) (sym (fault_is d.before) ∙ d.if1.false),
+      reached_next (job w) (weights w) (limits (start (loop w))) (lent₀ (loop w)) (start (loop w)).requires.1 (x w) (lent (loop w)) (here w)
+          (filled w) (step w) (sym (fault_is d.before) ∙ d.if-either.false),
       marks_next (job w) (weights w) _ (limits (start (loop w))) (lent₀ (loop w)) (x w) (lent (loop w)) (here w) _ (marks_here w) _ _
           (marks_step w),
       known_step w,
     )
 
 -- the run comes to its end
-returns_2 : tie.Need-returns-2 invariant_loop decreases_loop
+returns_2 : tie.Need-returns invariant_loop decreases_loop
 returns_2 c =
     let loop = c.before in
     let s = start loop in
-    let all : loop.loop.x ≡ s.args.job.last + 1 = omega (arith, loop.loop.invariant.0, c.loop-test.false) in (
-      stop_end s.args.job s.args.weights.now (limits s) (rw all at loop.loop.invariant.1.sound),
+    let all : loop.loop-x.x ≡ s.args.job.last + 1 = omega (arith, loop.loop-x.invariant.0, c.loop-x-test.false) in (
+      stop_end s.args.job s.args.weights.now (limits s) (rw all at loop.loop-x.invariant.1.sound),
       (
-        filled_end s.args.job s.args.weights.now (limits s) (lent₀ loop) s.pre.1 loop.loop.x (lent loop)
-            loop.loop.invariant.1 all,
-        marks_end s.args.job s.args.weights.now _ (limits s) (lent₀ loop) loop.loop.x (lent loop) loop.loop.invariant.1 _
-            loop.loop.invariant.2 all,
+        filled_end s.args.job s.args.weights.now (limits s) (lent₀ loop) s.requires.1 loop.loop-x.x (lent loop)
+            loop.loop-x.invariant.1 all,
+        marks_end s.args.job s.args.weights.now _ (limits s) (lent₀ loop) loop.loop-x.x (lent loop) loop.loop-x.invariant.1 _
+            loop.loop-x.invariant.2 all,
       ),
     )
 
@@ -203,9 +203,9 @@ fill_spec =
     add_x
     loop_less
     loop_again
-    (λ c. c.before.loop.invariant.1.kept.low.same_length)
-    (λ c. c.before.loop.invariant.1.kept.high.same_length)
-    (λ c. c.before.loop.invariant.1.kept.bound.same_length)
-    (λ c. c.before.loop.invariant.2.kept.same_length)
-    (λ c. c.before.loop.invariant.1.kept.work.same_length)
+    (λ c. c.loop-x.invariant.1.kept.low.same_length)
+    (λ c. c.loop-x.invariant.1.kept.high.same_length)
+    (λ c. c.loop-x.invariant.1.kept.bound.same_length)
+    (λ c. c.loop-x.invariant.2.kept.same_length)
+    (λ c. c.loop-x.invariant.1.kept.work.same_length)
     returns_2)

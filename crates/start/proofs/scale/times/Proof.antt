@@ -13,13 +13,13 @@ ends c = ends_of c.args.ends c.requires.1
 sizes : (c : tie.Start) → Products c.args.factor c.args.ends
 sizes c = products c.args.factor c.args.ends c.requires.0 c.requires.1
 
-mul_divide : tie.Need-overflow-mul-divide
+mul_divide : tie.Need-overflow_mul-ends
 mul_divide c =
     let k = sizes c.before.before.before in
     let low = (ends c.before.before.before).low_fits in
     simp (to_z-of_z, k.factor_low) k.low_product
 
-mul_divide_2 : tie.Need-overflow-mul-divide-2
+mul_divide_2 : tie.Need-overflow_mul-ends-2
 mul_divide_2 c =
     let k = sizes c.before.before.before.before.before.before in
     let high = (ends c.before.before.before.before.before.before).high_fits in
@@ -35,7 +35,7 @@ returns c =
     let high = (ends s).high_fits in
     let low_product = k.low_product in
     let high_product = k.high_product in
-    let (is-low, is-high) = simp (to_z-of_z, k.factor_low, k.factor_high) at d.divide.ensures.0 in
+    let (is-low, is-high) = simp (to_z-of_z, k.factor_low, k.factor_high) at d.divide-quotient.ensures.0 in
     same_ends is-low is-high
 
 pub times_spec : {M : Type 1} → statement M

@@ -12,29 +12,29 @@ use Rattle.start.proofs.series.add_part.Tie as tie
 sizes : (c : tie.Start) → Parts c.args.term c.args.sum
 sizes c = parts c.args.term c.args.sum c.requires
 
-add_t7 : tie.Need-overflow-add-t7
+add_t7 : tie.Need-overflow_add-result
 add_t7 c = let k = sizes c.before.before.before.before.before in search rules
 
-add_t8 : tie.Need-overflow-add-t8
+add_t8 : tie.Need-overflow_add-result-then-index-eq0
 add_t8 c = let k = sizes c.before.before.before.before.before.before.before.before.before in search rules
 
-sub_t9 : tie.Need-overflow-sub-t9
+sub_t9 : tie.Need-overflow_sub-result
 sub_t9 c = let k = sizes c.before.before.before.before.before in search rules
 
-sub_t10 : tie.Need-overflow-sub-t10
+sub_t10 : tie.Need-overflow_sub-result-else-index-eq0
 sub_t10 c = let k = sizes c.before.before.before.before.before.before.before.before.before in search rules
 
-returns : tie.Need-returns
+returns : tie.Need-returns-then-index-eq0
 returns c =
     let t = c.before.before.before.before.before.before.before.before in
     let k = sizes t.before in
-    rw (plus_even _ _ _ (sym (even_mod t.before.args.index) ∙ eq-eqb _ _ t.if1.true)) (same_ends (search rules) (search rules))
+    rw (plus_even _ _ _ (sym (even_mod t.args.index) ∙ eq-eqb _ _ t.if-index-eq0.true)) (same_ends (search rules) (search rules))
 
-returns_2 : tie.Need-returns-2
+returns_2 : tie.Need-returns-else-index-eq0
 returns_2 c =
     let t = c.before.before.before.before.before.before.before.before in
     let k = sizes t.before in
-    rw (plus_odd _ _ _ (sym (even_mod t.before.args.index) ∙ ne_eqb _ _ t.if1.false)) (same_ends (search rules) (search rules))
+    rw (plus_odd _ _ _ (sym (even_mod t.args.index) ∙ ne_eqb _ _ t.if-index-eq0.false)) (same_ends (search rules) (search rules))
 
 pub add_part_spec : {M : Type 1} → statement M
 add_part_spec = tie.close (tie.spec add_t7 add_t8 sub_t9 sub_t10 returns returns_2)

@@ -16,56 +16,56 @@ use Rattle.start.proofs.Terms.{term_in_unit, sum_room, plus_part_lem}
 use Rattle.start.proofs.series.partial_sums.Statement.{statement}
 use Rattle.start.proofs.series.partial_sums.Tie as tie
 
-abbrev invariant_loop : tie.invariant_loop
+abbrev invariant_loop : tie.invariant-loop-j
 invariant_loop upper lower term₀ sum₀ j₀ last sum j = (j ≤ 13) × (last ≡ term upper lower j) × (sum ≡ sum_of_terms upper lower j)
 
-abbrev decreases_loop : tie.decreases_loop
+abbrev decreases_loop : tie.decreases-loop-j
 decreases_loop upper lower term₀ sum₀ j₀ last sum j = 13 - j
 
-loop_holds : tie.Need-loop-init invariant_loop decreases_loop
+loop_holds : tie.Need-loop-j-init invariant_loop decreases_loop
 unfolding term sum_of_terms accumulate
-loop_holds c = (search rules, c.certain.ensures, refl)
+loop_holds c = (search rules, c.certain-term.ensures, refl)
 
-add_part_requires : tie.Need-add-part-requires invariant_loop decreases_loop
+add_part_requires : tie.Need-add_part-sum-requires invariant_loop decreases_loop
 add_part_requires c κs =
     let s = c.before.before.before in
-    rw (c.before.loop.invariant.1, c.before.loop.invariant.2) (sum_room _ _ s.requires.0 s.requires.1 c.before.loop.j (search rules))
+    rw (c.loop-j.invariant.1, c.loop-j.invariant.2) (sum_room _ _ s.requires.0 s.requires.1 c.loop-j.j (search rules))
 
-next_term_requires : tie.Need-next-term-requires invariant_loop decreases_loop
+next_term_requires : tie.Need-next_term-term-requires invariant_loop decreases_loop
 next_term_requires c κs =
     let s = c.before.before.before.before in (
       s.requires.0,
       s.requires.1,
       search rules,
       search rules,
-      rw c.before.before.loop.invariant.1 (term_in_unit _ _ s.requires.0 s.requires.1 c.before.before.loop.j (search rules)),
+      rw c.loop-j.invariant.1 (term_in_unit _ _ s.requires.0 s.requires.1 c.loop-j.j (search rules)),
     )
 
-loop_again : tie.Need-loop-preserved invariant_loop decreases_loop
+loop_again : tie.Need-loop-j-preserved invariant_loop decreases_loop
 unfolding term
 loop_again c =
     let s = c.before.before.before.before.before in
-    let loop = c.before.before.before.loop in
+    let loop = c.loop-j in
     let a = s.args in (
       search rules,
-      rw (add-one loop.j) (rw (add-one loop.j, loop.invariant.1) at c.next_term_lem.ensures),
-      rw (add-one loop.j) ((rw (loop.invariant.1, loop.invariant.2) at c.before.add-part.ensures)
+      rw (add-one loop.j) (rw (add-one loop.j, loop.invariant.1) at c.next_term-term.ensures),
+      rw (add-one loop.j) ((rw (loop.invariant.1, loop.invariant.2) at c.add_part-sum.ensures)
           ∙ plus_part_lem a.upper a.lower s.requires.0 s.requires.1 loop.j),
     )
 
 -- after the last turn
-at_13 : (c : tie.After-loop invariant_loop decreases_loop) → let a = c.before.before.before.args in
-    (c.before.loop.term ≡ term a.upper a.lower 13) × (c.before.loop.sum ≡ sum_of_terms a.upper a.lower 13)
+at_13 : (c : tie.After-loop-j invariant_loop decreases_loop) → let a = c.args in
+    (c.loop-j.term ≡ term a.upper a.lower 13) × (c.loop-j.sum ≡ sum_of_terms a.upper a.lower 13)
 at_13 c =
-    let last : c.before.loop.j ≡ 13 = search rules in
-    (rw last at c.before.loop.invariant.1, rw last at c.before.loop.invariant.2)
+    let last : c.loop-j.j ≡ 13 = search rules in
+    (rw last at c.loop-j.invariant.1, rw last at c.loop-j.invariant.2)
 
-sizes : (c : tie.After-loop invariant_loop decreases_loop) → Parts c.before.loop.term c.before.loop.sum
+sizes : (c : tie.After-loop-j invariant_loop decreases_loop) → Parts c.loop-j.term c.loop-j.sum
 sizes c =
     let s = c.before.before.before in
     parts _ _ (rw ((at_13 c).0, (at_13 c).1) (sum_room _ _ s.requires.0 s.requires.1 13 (le_refl 13)))
 
-sub_t8 : tie.Need-overflow-sub-t8 invariant_loop decreases_loop
+sub_t8 : tie.Need-overflow_sub-result invariant_loop decreases_loop
 sub_t8 c = let k = sizes c.before.before.before.before in search rules
 
 returns : tie.Need-returns invariant_loop decreases_loop

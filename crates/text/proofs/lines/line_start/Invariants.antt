@@ -1,7 +1,6 @@
 -- The loop's invariant: what follows the first n - 1 line ends of the text is what follows the first n - counter of what is left of it.
 use mathlib.Core.Path.{◌≡◌}
 use Prim.Native.Nat.{◌-◌, ◌≤◌}
-use native.Mathlib.Nat as NL
 use lib.ListN.{length}
 use Rattle.text.specs.Lines.{after_lines}
 use Rattle.text.proofs.lines.line_start.Given as goal

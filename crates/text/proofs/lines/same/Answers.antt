@@ -1,6 +1,5 @@
 -- The loop's invariant: the texts are the same where what is left of them is.
 use mathlib.Core.Path.{sym, ◌∙◌}
-use Prim.Native.Nat.{◌-◌}
 use native.Mathlib.Omega.{arith}
 use lib.ListN.{drop_of_length-le}
 use Rattle.text.proofs.Scan.{same_next, same_differ, same_length}

@@ -1,6 +1,6 @@
 -- The loop's invariant: the texts are the same where what is left of them is.
 use mathlib.Core.Path.{◌≡◌}
-use Prim.Native.Nat.{◌-◌, ◌≤◌}
+use Prim.Native.Nat.{◌≤◌}
 use lib.Dec.{eqb}
 use lib.ListN.{length, drop}
 use Rattle.algebra.specs.Table.{same_list}

@@ -1,6 +1,6 @@
 -- The loop's invariant: before the first b stand i bytes, and those before it in what is left of the text.
 use mathlib.Core.Path.{◌≡◌}
-use Prim.Native.Nat.{◌+◌, ◌-◌, ◌≤◌}
+use Prim.Native.Nat.{◌+◌, ◌≤◌}
 use lib.ListN.{length, drop}
 use Rattle.text.specs.Lines.{before}
 use Rattle.text.proofs.lines.until.Given as goal
