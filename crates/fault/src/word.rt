@@ -1,7 +1,7 @@
 // The first word of a line that is no number there.
 
 ghost use Rattle.std.specs.Prelude.{◌≡◌, ◌+◌, length};
-ghost use Rattle.text.specs.Numbers.{number as wordNumber};
+ghost use Rattle.text.specs.Numbers.{number as word_number};
 ghost use Rattle.lines.specs.Line.{keyword_of, number_words, signs_on};
 ghost use Rattle.fault.specs.Call.{is_none, first_part, part_at};
 
@@ -12,7 +12,7 @@ use text::lines::{line_start, same, until};
 use text::numbers::number;
 
 fn is_no_number(word: &[u8], signs: bool) -> bool
-    ensures { result ≡ is_none (wordNumber signs word.now) }
+    ensures { result ≡ is_none (word_number signs word.now) }
 {
     match number(word, signs) {
         Number::Value(_) => false,

@@ -1,16 +1,10 @@
--- Each form's sides are those of a line with D, A and B once its constant is 0 (`hesselager_sides`, `panjer_willmot_sides`). What holds of
--- the line of order 1 then holds of the publication's own.
+-- What holds of the line of order 1 holds of the publication's own, as each form's sides are those of such a line (`Sides`).
 use mathlib.Core.Path.{◌≡◌, refl, sym, ◌∙◌, ap, subst}
-use mathlib.Core.List.{[], ◌∷◌}
-use Prim.Native.Nat.{ℕ, suc, ◌+◌, ◌-◌, ◌≤◌}
-use native.Mathlib.Omega.{arith}
-use lib.IntN.{ℤ, pos, nat_abs, ◌+ℤ◌, ◌-ℤ◌, ◌*ℤ◌, +ℤ_comm, +ℤ_idl}
+use Prim.Native.Nat.{ℕ, suc, ◌≤◌}
+use lib.IntN.{ℤ, pos, nat_abs}
 use lib.ListN.{get_or}
 use Rattle.algebra.specs.Fraction.{Fraction, ◌⊗◌, zero_to, ◌≈◌}
-use Rattle.algebra.specs.Solver.{var, unit, ◌:+◌, ◌:*◌, :-◌}
 use Rattle.algebra.proofs.Semiring.{one_mul}
-use Rattle.algebra.proofs.Integer.{integers}
-use Rattle.algebra.proofs.Solver.{solve}
 use Rattle.algebra.proofs.Sum.{sum_cong, sum_scale}
 use Rattle.algebra.proofs.Value.{ℚ, value, eq_of_value, value_one, value_times, value_zero_to}
 use Rattle.model.specs.declared.Law.{Law}
@@ -25,8 +19,9 @@ use Rattle.published.specs.Line.{Follows}
 use Rattle.published.specs.Satisfies.{count_coefficient_of, own_amount, DivisorPositive, OrderOne}
 use Rattle.published.specs.Satisfies.{SatisfiesPanjerWillmot, SatisfiesHesselager, OnlyLaw, OwnAmounts}
 use Rattle.published.proofs.Accepted.{LineAccepted, line_accepted}
-use Rattle.published.proofs.Steps.{Steps, before, steps_cong, law_steps, steps_unique}
+use Rattle.published.proofs.Steps.{Steps, steps_cong, law_steps, steps_unique}
 use Rattle.published.proofs.Turn.{Sides, to_steps, from_steps}
+use Rattle.published.proofs.Sides.{hesselager_sides, panjer_willmot_sides}
 open ℚ use {carrier as Q, 𝟙, ◌·◌}
 
 infixl 7 ◌·◌
@@ -97,27 +92,6 @@ module _ (constant D A B : ℤ) (left right : ℕ → ℤ) (sides : constant ≡
               ∙ ℚ.mul_assoc (value (p 0)) (value (P n)) (value (at n)) ∙ ap (λ (v : Q). value (p 0) · v) (sym (value_times (P n) (at n)))
 
 -- ---- the two forms
-hesselager_sides : (b₀ b₁ a₀ a₁ : ℤ) → b₀ ≡ pos 0 → Sides b₁ a₁ a₀ (λ n. b₀ +ℤ b₁ *ℤ pos n) (λ n. a₀ +ℤ a₁ *ℤ pos n)
-hesselager_sides b₀ b₁ a₀ a₁ e = record {
-  left_is = λ n. rw e (+ℤ_idl (b₁ *ℤ pos (suc n)));
-  right_is = λ n. +ℤ_comm a₀ (a₁ *ℤ pos (suc n));
-}
-
-panjer_willmot_sides : (α₀ α₁ β₀ β₁ : ℤ) → α₀ ≡ pos 0
-    → Sides α₁ β₁ (β₀ -ℤ β₁) (λ n. α₀ +ℤ α₁ *ℤ pos n) (λ n. β₀ +ℤ β₁ *ℤ pos (n - 1))
-panjer_willmot_sides α₀ α₁ β₀ β₁ e = record {
-  left_is = λ n. rw e (+ℤ_idl (α₁ *ℤ pos (suc n)));
-  right_is = right_is;
-}
-  where
-    right_is : (n : ℕ) → β₀ +ℤ β₁ *ℤ pos (suc n - 1) ≡ β₁ *ℤ pos (suc n) +ℤ (β₀ -ℤ β₁)
-    right_is n = ap (λ (m : ℕ). β₀ +ℤ β₁ *ℤ pos m) (before n) ∙ solve integers (β₀ ∷ β₁ ∷ pos n ∷ [])
-        (var 0 :+ var 1 :* var 2) (var 1 :* (var 2 :+ unit) :+ (var 0 :+ :- var 1)) tt
-        ∙ ap (λ (m : ℕ). β₁ *ℤ pos m +ℤ (β₀ -ℤ β₁)) after
-      where
-        after : n + 1 ≡ suc n
-        after = omega arith
-
 pub divisor_positive : DivisorPositive
 divisor_positive = ((λ α₀ α₁ β₀ β₁. positive α₀ α₁ β₁ _), (λ b₀ b₁ a₀ a₁. positive b₀ b₁ a₁ a₀))
 

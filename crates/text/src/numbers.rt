@@ -2,7 +2,7 @@
 
 ghost use Rattle.std.specs.Prelude.{◌≡◌, true, false, ◌≤◌, length};
 ghost use Rattle.algebra.specs.Table.{every};
-ghost use Rattle.text.specs.Numbers.{is_digit, starts_with, is_numeral, negative_of, number as wordNumber, found};
+ghost use Rattle.text.specs.Numbers.{is_digit, starts_with, is_numeral, negative_of, number as word_number, found};
 ghost use Rattle.text.specs.Leading.{leading_digits, digits_of, number_line, line_found};
 
 use super::{Number, NumberLine};
@@ -49,7 +49,7 @@ fn is_numeral(digits: &[u8]) -> bool
 
 // A number without a sign.
 fn unsigned(word: &[u8]) -> Number
-    ensures { found result ≡ wordNumber false word.now }
+    ensures { found result ≡ word_number false word.now }
 {
     let digits = leading_digits(word);
     if digits.count == word.len() && is_numeral(word) {
@@ -87,7 +87,7 @@ fn negative(digits: &[u8]) -> Number
 
 // A number that may have a minus sign.
 fn signed(word: &[u8]) -> Number
-    ensures { found result ≡ wordNumber true word.now }
+    ensures { found result ≡ word_number true word.now }
 {
     if starts_with(word, b'-') {
         return negative(&word[1..]);
@@ -97,7 +97,7 @@ fn signed(word: &[u8]) -> Number
 
 // The number that a word is; `signs` says whether it may have a minus sign.
 pub fn number(word: &[u8], signs: bool) -> Number
-    ensures { found result ≡ wordNumber signs word.now }
+    ensures { found result ≡ word_number signs word.now }
 {
     if signs {
         return signed(word);

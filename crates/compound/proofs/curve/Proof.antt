@@ -100,16 +100,16 @@ abbrev fill_of : tie.After-struct_known-1 → tie.After-fill-stop
 fill_of c = c.before.before.before.before.before.before.before.before.before
 
 clear_requires_2 : tie.Need-clear-requires-then-stop-places
-clear_requires_2 c κs = (still_long (fill_of c.before.before)).entries.low_long
+clear_requires_2 c κs = omega (arith, (still_long (fill_of c.before.before)).entries.low_long)
 
 clear_requires_3 : tie.Need-clear-requires-then-stop-places-2
-clear_requires_3 c κs = (still_long (fill_of c.before.before.before.before.before)).entries.high_long
+clear_requires_3 c κs = omega (arith, (still_long (fill_of c.before.before.before.before.before)).entries.high_long)
 
 clear_requires_4 : tie.Need-clear-requires-then-stop-places-3
-clear_requires_4 c κs = (still_long (fill_of c.before.before.before.before.before.before.before.before)).entries.bound_long
+clear_requires_4 c κs = omega (arith, (still_long (fill_of c.before.before.before.before.before.before.before.before)).entries.bound_long)
 
 clear_requires_5 : tie.Need-clear-requires-then-stop-places-4
-clear_requires_5 c κs = (still_long (fill_of c.before.before.before.before.before.before.before.before.before.before.before)).mark_long
+clear_requires_5 c κs = omega (arith, (still_long (fill_of c.before.before.before.before.before.before.before.before.before.before.before)).mark_long)
 
 -- ---- refused at a total
 returns_2 : tie.Need-returns-then-stop-places

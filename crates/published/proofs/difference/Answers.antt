@@ -1,23 +1,17 @@
--- Where neither number is above 2,000 in size the difference fits. Else a term lies outside the limits: were the second number and the
--- difference within them, the first would be at most 2,000. And all terms outside the limits are refused alike.
-use borrow.Author.Tests.{le-ltb, ltb-false}
+-- Where the test says no, the difference fits. Else a term lies outside the limits (`term_outside`), and all terms outside the limits are
+-- refused alike.
 use mathlib.Core.Path.{◌≡◌, refl, sym, ◌∙◌, ap}
 use mathlib.Core.Bool.{Bool, true, false, true≢false, ◌||◌, cond}
 use mathlib.Core.List.{[]}
-use Prim.Native.Nat.{◌+◌, ◌≤◌}
-use native.Mathlib.Omega.{arith}
-use lib.IntN.{ℤ, pos, neg_ℤ, nat_abs, ◌+ℤ◌, ◌-ℤ◌}
-use mir.Syntax.{w64}
-use mir.Val.{SFits, to_z, of_z}
+use lib.IntN.{ℤ, pos, nat_abs, ◌-ℤ◌}
 use mir.Facts.{to_z-of_z}
-use Rattle.algebra.proofs.Integer.{signed, split_add, split_neg}
-use Rattle.algebra.proofs.Or.{or_left, or_right, or_second}
-use Rattle.algebra.proofs.Size.{size_add, size_sub, size_fits}
+use Rattle.algebra.proofs.Or.{or_second}
 use Rattle.model.specs.Answer.{Answer, is_accepted, first_refusal}
 use Rattle.model.proofs.Answer.{by_first}
 use Rattle.model.specs.Limits.{outside, beyond}
 use Rattle.published.specs.Call.{answered, turn, turned_law, wrong_law, checks, no_law, law_of_line}
 use Rattle.published.proofs.Accepted.{turn_size}
+use Rattle.published.proofs.Sizes.{term_outside, test_is, fits}
 use Rattle.published.proofs.difference.Goals as goal
 
 -- ---- a refusal that the terms do not change
@@ -46,42 +40,7 @@ same_refusal constant D A B C h k =
     same : first_refusal (checks constant D A B) ≡ first_refusal (checks constant D A C)
     same = rw (wrong_terms D A B h, wrong_terms D A C k) refl
 
--- ---- sizes
-size_first : (a b : ℤ) → nat_abs a ≤ nat_abs (a -ℤ b) + nat_abs b
-size_first a b = rw back at (size_add (a -ℤ b) b)
-  where
-    back : a -ℤ b +ℤ b ≡ a
-    back = omega (signed, split_add (a -ℤ b) b, split_add a (neg_ℤ b), (split_neg b).0, (split_neg b).1)
-
-term_outside : (x y : ℤ) → (beyond 2000 x || beyond 2000 y) ≡ true → (beyond 1000 y || beyond 1000 (x -ℤ y)) ≡ true
-term_outside x y e = by (beyond 1000 y || beyond 1000 (x -ℤ y)) refl
-  where
-    by : (t : Bool) → (beyond 1000 y || beyond 1000 (x -ℤ y)) ≡ t → t ≡ true
-    by true k = refl
-    by false k =
-        let second = ltb-false 1000 (nat_abs y) (or_left (beyond 1000 y) (beyond 1000 (x -ℤ y)) k) in
-        let less = ltb-false 1000 (nat_abs (x -ℤ y)) (or_right (beyond 1000 y) (beyond 1000 (x -ℤ y)) k) in
-        let first-passes = le-ltb 2000 (nat_abs x) (omega (arith, size_first x y)) in
-        let second-passes = le-ltb 2000 (nat_abs y) (omega arith) in
-        absurd (true≢false (rw (first-passes, second-passes) at (sym e)))
-
-difference_fits : (x y : ℤ) → (beyond 2000 x || beyond 2000 y) ≡ false → SFits w64 (x -ℤ y)
-difference_fits x y e =
-    let first = ltb-false 2000 (nat_abs x) (or_left (beyond 2000 x) (beyond 2000 y) e) in
-    let second = ltb-false 2000 (nat_abs y) (or_right (beyond 2000 x) (beyond 2000 y) e) in
-    size_fits w64 (x -ℤ y) (omega (arith, size_sub x y))
-
 -- ---- the function
--- the test at the numbers that the arguments' bits stand for
-test_is : {x y : ℤ} {t : Bool} → SFits w64 x → SFits w64 y → t ≡ (beyond 2000 (to_z w64 (of_z w64 x)) || beyond 2000 (to_z w64 (of_z w64 y)))
-    → t ≡ (beyond 2000 x || beyond 2000 y)
-test_is f g e = rw (to_z-of_z f, to_z-of_z g) at e
-
--- where the test says no, the difference fits
-fits : {x y : ℤ} {t : Bool} → SFits w64 x → SFits w64 y → t ≡ (beyond 2000 (to_z w64 (of_z w64 x)) || beyond 2000 (to_z w64 (of_z w64 y)))
-    → t ≡ false → SFits w64 (x -ℤ y)
-fits {x} {y} f g e k = difference_fits x y (sym (test_is f g e) ∙ k)
-
 pub returns-then-is_either_beyond : goal.returns-then-is_either_beyond
 returns-then-is_either_beyond c constant divisor =
     let a = c.args in

@@ -148,7 +148,7 @@ thinned_divisor_requires c κs =
       (within 1 1000 (law e).divisor ((weights_due_lem e.before).earlier 1 (lit< tt))).1,
       rw (to_z-of_z (term_fits e)) (term_small e),
       omega (arith, sum_most e),
-      rw (sum_whole e) (sum_most e),
+      omega (arith, sum_whole e, sum_most e, e.before.before.before.total_weight-row.ensures),
     )
 
 first_is : (c : tie.After-thinned_divisor-first) → c.thinned_divisor-first.result ≡ job_divisor (begun c).args.job (begun c).args.weights.now

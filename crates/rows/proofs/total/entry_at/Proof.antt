@@ -101,8 +101,8 @@ divide_sums_requires_2 c κs =
     let basis = s.requires.1.0.basis in
     let table = basis.table_limits in
     let below : suc (a.row - 1) < a.job.law.order = omega (arith, s.requires.0.0, c.if-row-eq0.false) in (
-      rw s.requires.0.1 (omega (arith, table.weights_least)),
-      rw s.requires.0.1 (omega (arith, s.requires.0.2.all_most)),
+      rw s.requires.0.1 (omega (arith, table.weights_least, s.requires.0.2.thinned_least)),
+      rw s.requires.0.1 (omega (arith, s.requires.0.2.all_most, first_most a.job a.weights.now s.requires.0.2)),
       rw (sums_are c) (bound_fits a.job.law a.weights.now a.x _ basis (suc (a.row - 1)) _ below),
     )
 
