@@ -39,8 +39,7 @@ slice_bounds-rest-start c =
 pub slice_bounds-result-end : goal.slice_bounds-result-end
 slice_bounds-result-end c =
     let part = c.faulty_part-part in
-    sym (length-take-le part.result.count (rest c.args.sheet.now c.args.places part.result part.ensures)
-    (long_enough c.args.sheet.now c.args.places part.result part.ensures))
+    sym (length-take-le _ _ (omega (arith, long_enough c.args.sheet.now c.args.places part.result part.ensures)))
 
 pub returns-clause-bytes : goal.returns-clause-bytes
 returns-clause-bytes c = word_is c.args.sheet.now c.args.places c.faulty_part-part.result c.faulty_part-part.ensures
