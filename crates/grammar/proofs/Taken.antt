@@ -18,7 +18,7 @@ use Rattle.model.specs.declared.Law.{Law}
 use Rattle.model.specs.declared.Start.{Start}
 use Rattle.model.specs.declared.Job.{Job}
 use Rattle.model.specs.Limits.{most_order, most_severities, outside}
-use Rattle.model.specs.Job.{start_of, job_of}
+use Rattle.model.specs.Job.{start_of}
 use Rattle.model.proofs.Tests.{within}
 use Rattle.text.specs.Bytes.{line_end}
 use Rattle.text.specs.Lines.{after, after_lines, line_at}
@@ -244,9 +244,9 @@ module _ (places : ℕ) (all : List ℕ) where
       → AtMostTenDigits (pos start.low) → AtMostTenDigits (pos start.high) → AtMostTenDigits (pos last)
       → Stands n (last_text law start last) s → Right (zero_line places law start last n s)
   unfolding zero_line
-  zero_weight law start last n s fits low high last_small here = goes_on false ZERO 1 _ refl here λ zs rest p there.
-      severity (job_of law start last (natural zs 0)) (n + 1) rest
-      (record { law = fits; low = low; high = high; last = last_small; zero = p.small 0 })
+  zero_weight law start last n s fits low high last_small here = goes_on _ ZERO 1 _ refl here λ zs rest p there.
+      severity _ (n + 1) rest
+      (record { law = fits; low = low; high = high; last = last_small; zero = omega (arith, p.small 0) })
       (rw (one_natural p) at there)
 
   last : (law : Law) (start : Start) (n : ℕ) (s : List ℕ) → LawFits law law.order

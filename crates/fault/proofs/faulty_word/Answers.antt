@@ -5,6 +5,7 @@ use Prim.Native.Nat.{ℕ, ◌-◌, ◌≤◌}
 use native.Mathlib.Omega.{arith}
 use lib.ListN.{length, take, drop, length-drop}
 use lib.Seq.{length-take-le}
+use Rattle.std.proofs.lemmas.Grind.{common_steps}
 use Rattle.algebra.proofs.Slice.{part_to_end}
 use Rattle.fault.specs.declared.Part.{Part}
 use Rattle.fault.specs.Call.{faulty_word, faulty_part}
@@ -39,8 +40,8 @@ slice_bounds-rest-start c =
 pub slice_bounds-result-end : goal.slice_bounds-result-end
 slice_bounds-result-end c =
     let part = c.faulty_part-part in
-    sym (length-take-le part.result.count (rest c.args.sheet.now c.args.places part.result part.ensures)
-    (long_enough c.args.sheet.now c.args.places part.result part.ensures))
+    let long = long_enough c.args.sheet.now c.args.places part.result part.ensures in
+    grind (arith, common_steps, length-take-le)
 
 pub returns-clause-bytes : goal.returns-clause-bytes
 returns-clause-bytes c = word_is c.args.sheet.now c.args.places c.faulty_part-part.result c.faulty_part-part.ensures
