@@ -1,19 +1,31 @@
 // Numbers from standard input, eight bytes each with the least first. Past the end of the input every number is 0.
 
-ghost use Rattle.std.specs.Prelude.{◌≤◌, length};
+ghost use Rattle.std.specs.Prelude.{◌≤◌};
 
 use std::io::Read;
 
-fn wide(b: u8) -> u64 {
-    b as u64
+// A number that eight bytes stand for.
+pub trait FromBytes {
+    fn from_bytes(bytes: [u8; 8]) -> Self;
 }
 
-fn joined(bytes: &[u8; 8]) -> u64 {
-    let mut n = 0;
-    for i in 0..8 {
-        n = n << 8 | wide(bytes[7 - i]);
+impl FromBytes for u64 {
+    fn from_bytes(bytes: [u8; 8]) -> u64 {
+        u64::from_le_bytes(bytes)
     }
-    n
+}
+
+impl FromBytes for usize {
+    fn from_bytes(bytes: [u8; 8]) -> usize {
+        usize::from_le_bytes(bytes)
+    }
+}
+
+// A number from 2^63 on stands for itself less 2^64.
+impl FromBytes for i64 {
+    fn from_bytes(bytes: [u8; 8]) -> i64 {
+        i64::from_le_bytes(bytes)
+    }
 }
 
 // Reads until the row is full, the input ends or a read fails: what was read is in the first places, and the others stay as they were.
@@ -21,63 +33,37 @@ fn fill<R: Read>(input: &mut R, row: &mut [u8]) {
     let _ = input.read_exact(row);
 }
 
-pub fn number<R: Read>(input: &mut R) -> u64 {
-    let mut bytes = [0u8; 8];
+pub fn number<R: Read, N: FromBytes>(input: &mut R) -> N {
+    let mut bytes = [0; 8];
     fill(input, &mut bytes);
-    joined(&bytes)
-}
-
-// A number from 2^63 on stands for itself less 2^64.
-pub fn signed<R: Read>(input: &mut R) -> i64 {
-    let n = number(input);
-    if n < 9_223_372_036_854_775_808 {
-        n as i64
-    } else {
-        -1 - (u64::MAX - n) as i64
-    }
+    N::from_bytes(bytes)
 }
 
 // The next number, and `most` for a larger one.
 pub fn at_most<R: Read>(input: &mut R, most: usize) -> usize
     ensures { result ≤ most }
 {
-    let n = number(input) as usize;
-    if n < most { n } else { most }
+    number::<R, usize>(input).min(most)
 }
 
-// A count and as many numbers, which come into the first places of the row. The answer is the count.
-pub fn numbers<R: Read>(input: &mut R, row: &mut [u64]) -> usize
-    ensures { result ≤ length row.new }
-{
-    let count = at_most(input, row.len());
-    for i in 0..count {
-        row[i] = number(input);
-    }
-    count
+// As many first places of `space` as the next number says.
+pub fn front<'a, R: Read, N>(input: &mut R, space: &'a mut [N]) -> &'a mut [N] {
+    let count = at_most(input, space.len());
+    &mut space[..count]
 }
 
-// The same, without an answer.
-pub fn sizes<R: Read>(input: &mut R, row: &mut [usize]) {
-    for i in 0..at_most(input, row.len()) {
-        row[i] = number(input) as usize;
+// A count and as many numbers, which come into the first places of `space`.
+pub fn numbers<'a, R: Read, N: Copy + FromBytes>(input: &mut R, space: &'a mut [N]) -> &'a [N] {
+    let row = front(input, space);
+    for place in &mut *row {
+        *place = number(input);
     }
-}
-
-pub fn signed_numbers<R: Read>(input: &mut R, row: &mut [i64]) -> usize
-    ensures { result ≤ length row.new }
-{
-    let count = at_most(input, row.len());
-    for i in 0..count {
-        row[i] = signed(input);
-    }
-    count
+    row
 }
 
 // A count and as many bytes, likewise.
-pub fn bytes<R: Read>(input: &mut R, row: &mut [u8]) -> usize
-    ensures { result ≤ length row.new }
-{
-    let count = at_most(input, row.len());
-    fill(input, &mut row[..count]);
-    count
+pub fn bytes<'a, R: Read>(input: &mut R, space: &'a mut [u8]) -> &'a [u8] {
+    let row = front(input, space);
+    fill(input, row);
+    row
 }

@@ -4,7 +4,9 @@
 // what they hold.
 
 use crate::{input, show};
-use layer::{LayerList, LayersAnswer, MOST_LAYERS};
+use intervals::Intervals;
+use layer::{LayerList, MOST_LAYERS};
+use model::refusal::{number_in, place_in};
 use std::io::{Read, Write};
 
 // More places than a call takes.
@@ -17,11 +19,11 @@ const ANSWER_PLACES: usize = 80;
 const MARK: i64 = i64::MIN;
 
 fn read_list<R: Read>(input: &mut R) -> LayerList {
-    let count = input::number(input) as usize;
+    let count = input::number(input);
     let mut attachments = [0usize; MOST_LAYERS];
-    input::sizes(input, &mut attachments);
+    input::numbers(input, &mut attachments);
     let mut limits = [0usize; MOST_LAYERS];
-    input::sizes(input, &mut limits);
+    input::numbers(input, &mut limits);
     LayerList {
         count,
         attachments,
@@ -29,54 +31,31 @@ fn read_list<R: Read>(input: &mut R) -> LayerList {
     }
 }
 
-fn show_answer<W: Write>(out: &mut W, answer: LayersAnswer) {
-    match answer {
-        LayersAnswer::Accepted => show::answer(out, 0, 0),
-        LayersAnswer::Refused(reason, place) => {
-            show::answer(out, layer::reason_number(reason), place)
-        }
-    }
-}
-
 // Makes the call with the fronts of the answer rows, as long as the record says.
 fn call<R: Read, W: Write>(
     input: &mut R,
     out: &mut W,
-    low: &[i64],
-    high: &[i64],
+    rows: Intervals,
     answer_low: &mut [i64],
     answer_high: &mut [i64],
 ) {
     let list = read_list(input);
-    let lows = input::at_most(input, answer_low.len());
-    let highs = input::at_most(input, answer_high.len());
-    show_answer(
-        out,
-        layer::layers(
-            low,
-            high,
-            list,
-            &mut answer_low[..lows],
-            &mut answer_high[..highs],
-        ),
-    );
+    let answer_low = input::front(input, answer_low);
+    let answer_high = input::front(input, answer_high);
+    let answer = layer::layers(rows, &list, answer_low, answer_high);
+    show::answer(out, number_in(&answer), place_in(&answer));
 }
 
 pub fn run<R: Read, W: Write>(input: &mut R, out: &mut W) {
-    let mut low = [0i64; PLACES];
-    let lows = input::signed_numbers(input, &mut low);
-    let mut high = [0i64; PLACES];
-    let highs = input::signed_numbers(input, &mut high);
+    let mut low = [0; PLACES];
+    let mut high = [0; PLACES];
     let mut answer_low = [MARK; ANSWER_PLACES];
     let mut answer_high = [MARK; ANSWER_PLACES];
-    call(
-        input,
-        out,
-        &low[..lows],
-        &high[..highs],
-        &mut answer_low,
-        &mut answer_high,
-    );
+    let rows = Intervals {
+        low: input::numbers(input, &mut low),
+        high: input::numbers(input, &mut high),
+    };
+    call(input, out, rows, &mut answer_low, &mut answer_high);
     show::row(out, &answer_low, MARK);
     show::row(out, &answer_high, MARK);
     show::text(out, b"\n");

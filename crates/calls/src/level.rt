@@ -2,36 +2,32 @@
 // and total of sure, and then of possible.
 
 use crate::{input, show};
-use quantile::QuantileAnswer;
+use intervals::Intervals;
+use model::refusal::{Refusal, number_in, place_in};
+use quantile::Reason;
 use std::io::{Read, Write};
 
 // More places than a query takes.
 const PLACES: usize = 512;
 
-fn show_answer<W: Write>(out: &mut W, answer: QuantileAnswer) {
-    match answer {
-        QuantileAnswer::Total(total) => {
-            show::answer(out, 0, 0);
-            show::next(out, total as u64);
-        }
-        QuantileAnswer::Refused(reason, place) => {
-            show::answer(out, quantile::reason_number(reason), place);
-            show::next(out, 0);
-        }
-    }
+fn show_answer<W: Write>(out: &mut W, answer: Result<usize, Refusal<Reason>>) {
+    show::answer(out, number_in(&answer), place_in(&answer));
+    show::next(out, answer.unwrap_or_default());
 }
 
-fn show_queries<W: Write>(out: &mut W, low: &[i64], high: &[i64], level: i64) {
-    show_answer(out, quantile::sure(low, high, level));
+fn show_queries<W: Write>(out: &mut W, rows: Intervals, level: i64) {
+    show_answer(out, quantile::sure(rows, level));
     show::text(out, b" ");
-    show_answer(out, quantile::possible(low, high, level));
+    show_answer(out, quantile::possible(rows, level));
 }
 
 pub fn run<R: Read, W: Write>(input: &mut R, out: &mut W) {
-    let mut low = [0i64; PLACES];
-    let lows = input::signed_numbers(input, &mut low);
-    let mut high = [0i64; PLACES];
-    let highs = input::signed_numbers(input, &mut high);
-    show_queries(out, &low[..lows], &high[..highs], input::signed(input));
+    let mut low = [0; PLACES];
+    let mut high = [0; PLACES];
+    let rows = Intervals {
+        low: input::numbers(input, &mut low),
+        high: input::numbers(input, &mut high),
+    };
+    show_queries(out, rows, input::number(input));
     show::text(out, b"\n");
 }

@@ -5,6 +5,7 @@
 
 mod curve;
 mod input;
+mod kind;
 mod laws;
 mod layers;
 mod level;
@@ -12,22 +13,22 @@ mod reader;
 mod show;
 mod starts;
 
+use kind::{Kind, UnknownKind};
 use std::io::{Read, Write};
 
-// One record; false at the end of the input, where the kind is 0.
-fn next_call<R: Read, W: Write>(input: &mut R, out: &mut W) -> bool {
-    match input::number(input) {
-        1 => reader::run(input, out),
-        2 => curve::run(input, out),
-        3 => level::run(input, out),
-        4 => starts::run_mean(input, out),
-        5 => starts::run_trials(input, out),
-        6 => laws::run_panjer_willmot(input, out),
-        7 => laws::run_hesselager(input, out),
-        8 => layers::run(input, out),
-        _ => return false,
+// One record. At the end of the input the number is 0, which no kind has.
+fn next_call<R: Read, W: Write>(input: &mut R, out: &mut W) -> Result<(), UnknownKind> {
+    match Kind::try_from(input::number::<R, u64>(input))? {
+        Kind::Reader => reader::run(input, out),
+        Kind::Curve => curve::run(input, out),
+        Kind::Level => level::run(input, out),
+        Kind::Mean => starts::run_mean(input, out),
+        Kind::Trials => starts::run_trials(input, out),
+        Kind::PanjerWillmot => laws::run_panjer_willmot(input, out),
+        Kind::Hesselager => laws::run_hesselager(input, out),
+        Kind::Layers => layers::run(input, out),
     }
-    true
+    Ok(())
 }
 
 // A proved loop has to end, and nothing says that the input does: the count of turns is one that no input uses up.
@@ -35,7 +36,7 @@ fn main(rt: HostRuntime) {
     let mut input = rt.stdin();
     let mut out = rt.stdout();
     for _ in 0..u64::MAX {
-        if !next_call(&mut input, &mut out) {
+        if next_call(&mut input, &mut out).is_err() {
             return;
         }
     }

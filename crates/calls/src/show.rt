@@ -1,79 +1,58 @@
 // Writing to standard output. Where a write fails, the rest of its piece is left out.
 
 use model::Law;
-use output::size;
+use std::fmt::Display;
 use std::io::Write;
 
 pub fn text<W: Write>(out: &mut W, bytes: &[u8]) {
     let _ = out.write_all(bytes);
 }
 
-pub fn number<W: Write>(out: &mut W, n: u64) {
+pub fn number<W: Write, N: Display + Drop>(out: &mut W, n: N) {
     let _ = write!(out, "{n}");
 }
 
-// Two hexadecimal digits.
+pub fn next<W: Write, N: Display + Drop>(out: &mut W, n: N) {
+    let _ = write!(out, " {n}");
+}
+
+// A byte, by two hexadecimal digits.
 pub fn hex<W: Write>(out: &mut W, b: u8) {
-    let _ = write!(out, "{b:02x}");
-}
-
-pub fn next<W: Write>(out: &mut W, n: u64) {
-    text(out, b" ");
-    number(out, n);
-}
-
-pub fn signed<W: Write>(out: &mut W, z: i64) {
-    if z < 0 {
-        text(out, b"-");
-    }
-    number(out, size(z));
-}
-
-pub fn next_signed<W: Write>(out: &mut W, z: i64) {
-    text(out, b" ");
-    signed(out, z);
+    let _ = write!(out, " {b:02x}");
 }
 
 // The number of an answer, 0 for an acceptance, and its place or line.
 pub fn answer<W: Write>(out: &mut W, reason: u64, place: usize) {
-    number(out, reason);
-    next(out, place as u64);
-}
-
-fn terms<W: Write>(out: &mut W, row: [i64; 4]) {
-    next_signed(out, row[0]);
-    next_signed(out, row[1]);
-    next_signed(out, row[2]);
-    next_signed(out, row[3]);
+    let _ = write!(out, "{reason} {place}");
 }
 
 // k, D, A_1 to A_4 and B_1 to B_4.
-pub fn law<W: Write>(out: &mut W, numbers: Law) {
-    next(out, numbers.order);
-    next(out, numbers.divisor);
-    let a = numbers.a;
-    terms(out, a);
-    let b = numbers.b;
-    terms(out, b);
-}
-
-// A place of a row, in front of what it holds.
-pub fn place<W: Write>(out: &mut W, at: usize) {
-    next(out, at as u64);
-    text(out, b"=");
-}
-
-fn held<W: Write>(out: &mut W, at: usize, value: i64, mark: i64) {
-    if value != mark {
-        place(out, at);
-        signed(out, value);
+pub fn law<W: Write>(out: &mut W, law: Law) {
+    next(out, law.order);
+    next(out, law.divisor);
+    for term in law.a {
+        next(out, term);
+    }
+    for term in law.b {
+        next(out, term);
     }
 }
 
-// The places of a row that no longer hold the mark that they held before the call.
-pub fn row<W: Write>(out: &mut W, values: &[i64], mark: i64) {
+// The places of a row that no longer hold the mark that they held before the call, counted from `first`.
+pub fn row_from<W: Write, N: Copy + Display + PartialEq>(
+    out: &mut W,
+    first: usize,
+    values: &[N],
+    mark: N,
+) {
     text(out, b";");
-    for i in 0..values.len() {
-        held(out, i, values[i], mark);
+    for (at, value) in (first..).zip(values) {
+        if *value != mark {
+            let _ = write!(out, " {at}={value}");
+        }
     }
+}
+
+pub fn row<W: Write, N: Copy + Display + PartialEq>(out: &mut W, values: &[N], mark: N) {
+    row_from(out, 0, values, mark);
 }

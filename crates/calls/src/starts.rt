@@ -1,25 +1,18 @@
 // The calls for a start. Their records: the fraction's upper and lower number, and for trials their number. Their line: number, low and
-// high.
+// high. What each reads is what its call takes, in that order; so it is with laws.
 
 use crate::{input, show};
 use model::Start;
-use start::StartAnswer;
+use model::refusal::number_in;
+use start::Reason;
 use std::io::{Read, Write};
 
-fn show_start<W: Write>(out: &mut W, number: u64, start: Start) {
-    show::number(out, number);
+fn show_answer<W: Write>(out: &mut W, answer: Result<Start, Reason>) {
+    show::number(out, number_in(&answer));
+    let start = answer.unwrap_or_default();
     show::next(out, start.low);
     show::next(out, start.high);
     show::text(out, b"\n");
-}
-
-fn show_answer<W: Write>(out: &mut W, answer: StartAnswer) {
-    match answer {
-        StartAnswer::Given(given) => show_start(out, 0, given),
-        StartAnswer::Refused(reason) => {
-            show_start(out, start::reason_number(reason), Start { low: 0, high: 0 })
-        }
-    }
 }
 
 pub fn run_mean<R: Read, W: Write>(input: &mut R, out: &mut W) {

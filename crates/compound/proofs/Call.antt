@@ -1,7 +1,7 @@
 -- What an answer says of its job: the checks are a chain of conditions, and an acceptance passed each of them.
 use mathlib.Core.Path.{◌≡◌, refl, sym, ◌∙◌}
 use mathlib.Core.Bool.{Bool, true, false, true≢false, ◌&&◌, ◌||◌, cond}
-use mathlib.Core.List.{List, ◌++◌}
+use mathlib.Core.List.{List, [], ◌++◌}
 use Prim.Native.Nat.{ℕ, zero, suc, ◌+◌, ◌≤◌, ◌<◌, zero-le}
 use native.Mathlib.Nat as NL
 use native.Mathlib.Omega.{arith}
@@ -18,11 +18,11 @@ use Rattle.model.specs.Weights.{total_weight, all_weight}
 use Rattle.model.specs.Answer.{Condition, accepted, first_refusal}
 use Rattle.model.proofs.Answer.{none_holds}
 use Rattle.model.proofs.Tests.{within}
-use Rattle.model.specs.Limits.{unit, most_order, most_last, beyond}
+use Rattle.model.specs.Limits.{unit, most_order, most_last, outside, beyond}
 use Rattle.rows.specs.Layout.{work_places}
-use Rattle.rows.specs.Limits.{Limits}
+use Rattle.rows.specs.Limits.{LawLimits, Limits}
 use Rattle.compound.specs.Lent.{Lent, LongEnough}
-use Rattle.compound.specs.Call.{term_limit, wrong_term, first_wrong_term, shorter, too_short, checks}
+use Rattle.compound.specs.Call.{term_limit, wrong_term, first_wrong_term, shorter, too_short, law_checks, checks}
 
 -- ---- checks 1 to 8, and 11 to 13 among them
 -- 12 and 13
@@ -47,11 +47,28 @@ module _ (law : Law) (e : ltb (first_wrong_term law) most_order ≡ false) (i : 
   small : (terms : List ℤ) → beyond (term_limit law.order i) (get_or terms i (pos 0)) ≡ false → nat_abs (get_or terms i (pos 0)) ≤ 1000
   small terms t = NL.le_trans (ltb-false (term_limit law.order i) (nat_abs (get_or terms i (pos 0))) t) (limit_most (ltb i law.order))
 
-  pub a_small : nat_abs (get_or law.a i (pos 0)) ≤ 1000
+  a_small : nat_abs (get_or law.a i (pos 0)) ≤ 1000
   a_small = small law.a (or_left _ _ right)
 
   b_small : nat_abs (get_or law.b i (pos 0)) ≤ 1000
   b_small = small law.b (or_right (beyond (term_limit law.order i) (get_or law.a i (pos 0))) _ right)
+
+-- 1 to 3
+law_lem : (law : Law) → outside 1 most_order law.order ≡ false → outside 1 1000 law.divisor ≡ false
+    → ltb (first_wrong_term law) most_order ≡ false → LawLimits law
+law_lem law order divisor terms = record {
+  order_least = (within 1 most_order law.order order).0;
+  order_most = (within 1 most_order law.order order).1;
+  divisor_least = (within 1 1000 law.divisor divisor).0;
+  divisor_most = (within 1 1000 law.divisor divisor).1;
+  a_small = a_small law terms;
+  b_small = b_small law terms;
+}
+
+pub law_limits : (law : Law) → accepted ≡ first_refusal (law_checks law) → LawLimits law
+law_limits law passed =
+    let fails = (none_holds (law_checks law) [] tt (sym passed)).0 in
+    law_lem law (fails 1) (fails 2) (fails 3)
 
 module _ (job : Job) (weights : List ℕ) (lent : Lent) where
   pub checked_limits : (rest : List Condition) → first_refusal (checks job weights lent ++ rest) ≡ accepted
@@ -62,14 +79,7 @@ module _ (job : Job) (weights : List ℕ) (lent : Lent) where
       let total = (within 1 1000 (all_weight job.zero weights) (fails 6)).1 in
       let ends = within 1 unit job.start.high (or_right (ltb job.start.high job.start.low) _ (fails 4)) in (
         record {
-          law = record {
-            order_least = (within 1 most_order _ (fails 1)).0;
-            order_most = (within 1 most_order _ (fails 1)).1;
-            divisor_least = (within 1 1000 _ (fails 2)).0;
-            divisor_most = (within 1 1000 _ (fails 2)).1;
-            a_small = a_small job.law (fails 3);
-            b_small = b_small job.law (fails 3);
-          };
+          law = law_lem job.law (fails 1) (fails 2) (fails 3);
           table = record {
             weights_least = not_zero (total_weight weights) (fails 13);
             weights_most = omega (arith, total);

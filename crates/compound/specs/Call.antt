@@ -1,5 +1,5 @@
 -- The curve call: "Takes the job, three lent rows (low, high, bound) and a work row.", with "a fourth lent row" for the marks.
-use Rattle.std.specs.Prelude.{Bool, ◌&&◌, ◌||◌, cond, List, [], ◌∷◌, ◌++◌, ℕ, ◌+◌, ltb, eqb, ℤ, pos, length, get_or, replicate}
+use Rattle.std.specs.Prelude.{Bool, ◌&&◌, ◌||◌, cond, List, [], ◌∷◌, ◌++◌, ℕ, ◌+◌, ltb, eqb, ℤ, pos, length, get_or, replicate, Result}
 use Rattle.algebra.specs.Slice.{listed, written}
 use Rattle.algebra.specs.Smallest.{smallest}
 use Rattle.model.specs.Weights.{total_weight, all_weight}
@@ -7,19 +7,20 @@ use Rattle.model.specs.Job.{job_divisor}
 use Rattle.model.specs.declared.Law.{Law}
 use Rattle.model.specs.declared.Start.{Start}
 use Rattle.model.specs.declared.Job.{Job}
-use Rattle.model.specs.Answer.{Answer, Condition, accepted, refused, is_accepted, condition, first_refusal}
+use Rattle.model.specs.declared.refusal.Refusal.{Refusal}
+use Rattle.model.specs.Answer.{Answer, Condition, answer_of, is_accepted, condition, first_refusal}
 use Rattle.model.specs.Limits.{unit, most_order, most_severities, most_last, outside, beyond}
 use Rattle.model.specs.Mark.{mark_of}
 use Rattle.rows.specs.Curve.{curve_rows}
 use Rattle.rows.specs.Exact.{curve_marks}
 use Rattle.rows.specs.Faults.{first_fault, range_fault}
 use Rattle.rows.specs.Layout.{work_places}
+use Rattle.rows.specs.declared.fill.Fault.{Fault}
+use Rattle.rows.specs.declared.fill.Fault.TheVariants.{Range as RangeFault, Bound as BoundFault}
 use Rattle.compound.specs.Lent.{Lent}
 use Rattle.compound.specs.declared.Reason.{Reason}
 use Rattle.compound.specs.declared.Reason.TheVariants.{Order, Divisor, Term, Start as StartReason, Severities, Weights}
 use Rattle.compound.specs.declared.Reason.TheVariants.{ZeroOrder, ZeroDivisor, OnlyZeros, Last, Places, Range, Bound}
-use Rattle.compound.specs.declared.CurveAnswer.{CurveAnswer}
-use Rattle.compound.specs.declared.CurveAnswer.TheVariants.{Accepted, Refused}
 
 -- ---- the answer
 abbrev pub number_of : Reason → ℕ
@@ -38,9 +39,13 @@ number_of Range = 9
 number_of Bound = 10
 
 -- what the paper says for each answer of the code
-abbrev pub paper : CurveAnswer → Answer
-paper Accepted = accepted
-paper (Refused reason place) = refused (number_of reason) place
+abbrev pub paper : {A : Type 0} → Result A (Refusal Reason) → Answer
+paper = answer_of number_of
+
+-- the reason of a fault
+abbrev pub reason_of : Fault → Reason
+reason_of RangeFault = Range
+reason_of BoundFault = Bound
 
 -- ---- "1, k; 2, D; 3, a term out of range, or past k and not zero (place: the smallest i); 4, start; 5, m; 6, W; 7, X; 8, a row below X+1
 -- places or the work row below 9 times (X+1)."; then "a fourth lent row, .. which 8, 9 and 10 treat like the other three", and "12 times
@@ -68,15 +73,24 @@ too_short places lent = shorter places lent.low || shorter places lent.high || s
     || shorter places lent.mark || shorter (work_places places) lent.work
 
 -- of the law, the start and the table
-abbrev pub job_checks : Job → List ℕ → List Condition
-job_checks job weights =
-    condition (outside 1 most_order job.law.order) 1 0
-    ∷ condition (outside 1 1000 job.law.divisor) 2 0
-    ∷ condition (ltb (first_wrong_term job.law) most_order) 3 (first_wrong_term job.law + 1)
-    ∷ condition (wrong_start job.start) 4 0
-    ∷ condition (outside 1 most_severities (length weights)) 5 0
+abbrev pub law_checks : Law → List Condition
+law_checks law =
+    condition (outside 1 most_order law.order) 1 0
+    ∷ condition (outside 1 1000 law.divisor) 2 0
+    ∷ condition (ltb (first_wrong_term law) most_order) 3 (first_wrong_term law + 1)
+    ∷ []
+
+abbrev pub start_checks : Start → List Condition
+start_checks start = condition (wrong_start start) 4 0 ∷ []
+
+abbrev pub table_checks : Job → List ℕ → List Condition
+table_checks job weights =
+    condition (outside 1 most_severities (length weights)) 5 0
     ∷ condition (outside 1 1000 (all_weight job.zero weights)) 6 0
     ∷ []
+
+abbrev pub job_checks : Job → List ℕ → List Condition
+job_checks job weights = law_checks job.law ++ (start_checks job.start ++ table_checks job weights)
 
 -- "11, after 6, a nonzero weight at 0 when k is above 1, then 12 a D times W - A times w(0) of zero or less, then 13 a table whose other
 -- weights are all 0"

@@ -4,79 +4,66 @@
 
 mod check;
 
-ghost use Rattle.std.specs.Prelude.{◌≡◌, not, cond, ◌≤◌, pos, length, replicate};
+ghost use Rattle.std.specs.Prelude.{◌≡◌, ◌+◌, ◌≤◌, pos, length, replicate};
 ghost use Rattle.algebra.specs.Slice.{written};
-ghost use Rattle.model.specs.Answer.{refused, is_accepted};
-ghost use Rattle.compound.specs.Lent.{lent_rows};
-ghost use Rattle.compound.specs.Call.{number_of, paper, curve_answer, curve_lent};
+ghost use Rattle.model.specs.Answer.{first_refusal};
+ghost use Rattle.rows.specs.Lent.{Room, SameRows};
+ghost use Rattle.compound.specs.Lent.{lent_of, lent_in, SameLent};
+ghost use Rattle.compound.specs.Call.{number_of, reason_of, paper, faults, ran, curve_answer, curve_lent};
 
 use model::Job;
-use rows::fill::{Stop, fill};
-use rows::layout::WORK_COLUMNS;
+use model::refusal::{Numbered, Refusal};
+use rows::fill::Fault;
+use rows::layout::{Rows, WORK_COLUMNS};
+use rows::total::Recursion;
 
-// Why the curve call refuses.
-#[derive(Clone, Copy)]
+// Why the curve call refuses, by the paper's numbers, in the order in which they are looked for.
+#[derive(Clone, Copy, Debug, PartialEq, Eq)]
 pub enum Reason {
-    Order,
-    Divisor,
-    Term,
-    Start,
-    Severities,
-    Weights,
-    ZeroOrder,
-    ZeroDivisor,
-    OnlyZeros,
-    Last,
-    Places,
-    Range,
-    Bound,
+    Order = 1,
+    Divisor = 2,
+    Term = 3,
+    Start = 4,
+    Severities = 5,
+    Weights = 6,
+    ZeroOrder = 11,
+    ZeroDivisor = 12,
+    OnlyZeros = 13,
+    Last = 7,
+    Places = 8,
+    Range = 9,
+    Bound = 10,
 }
 
-#[derive(Clone, Copy)]
-pub enum CurveAnswer {
-    Accepted,
-    // The reason and its place.
-    Refused(Reason, usize),
-}
+impl Numbered for Reason {
+    ghost number_of = { number_of };
 
-// The paper's number of a reason.
-pub fn reason_number(reason: Reason) -> u64
-    ensures { result ≡ number_of reason }
-{
-    match reason {
-        Reason::Order => 1,
-        Reason::Divisor => 2,
-        Reason::Term => 3,
-        Reason::Start => 4,
-        Reason::Severities => 5,
-        Reason::Weights => 6,
-        Reason::ZeroOrder => 11,
-        Reason::ZeroDivisor => 12,
-        Reason::OnlyZeros => 13,
-        Reason::Last => 7,
-        Reason::Places => 8,
-        Reason::Range => 9,
-        Reason::Bound => 10,
+    fn number(self) -> u64 {
+        self as u64
     }
 }
 
-fn is_refused(answer: CurveAnswer) -> bool
-    ensures { result ≡ not (is_accepted (paper answer)) }
-{
-    match answer {
-        CurveAnswer::Accepted => false,
-        CurveAnswer::Refused(_, _) => true,
-    }
+// The rows lent to the curve call: row 0's lows, highs, bounds and marks, and the work row, for the further rows of the recursion. They are
+// no `Rows` yet, whose number of places is known once the checks have passed.
+#[derive(Drop)]
+pub struct LentRows<'a> {
+    pub low: &'a mut [i64],
+    pub high: &'a mut [i64],
+    pub bound: &'a mut [i64],
+    pub mark: &'a mut [i64],
+    pub work: &'a mut [i64],
 }
 
-// The fault at which the rows stopped.
-fn refused_at(stop: Stop) -> CurveAnswer
-    ensures { paper result ≡ refused (cond stop.range 9 10) stop.total }
-{
-    if stop.range {
-        return CurveAnswer::Refused(Reason::Range, stop.total);
+// The reason of a fault at which the rows stop.
+impl From<Fault> for Reason {
+    ghost from_gives = { λ fault reason. reason ≡ reason_of fault };
+
+    fn from(fault: Fault) -> Reason {
+        match fault {
+            Fault::Range => Reason::Range,
+            Fault::Bound => Reason::Bound,
+        }
     }
-    CurveAnswer::Refused(Reason::Bound, stop.total)
 }
 
 // Zeros in the first `n` places.
@@ -84,42 +71,46 @@ fn clear(row: &mut [i64], n: usize)
     requires { n ≤ length row.old }
     ensures { row.new ≡ written (replicate n (pos 0)) row.old }
 {
-    for i in 0..n {
-        row[i] = 0;
-    }
+    row[..n].fill(0);
 }
 
-// The curve of a job from total 0 to its last, in three lent rows, and its marks in a fourth. The work row is lent for the further rows of
-// the recursion.
-pub fn curve(
-    job: Job,
-    weights: &[u64],
-    low: &mut [i64],
-    high: &mut [i64],
-    bound: &mut [i64],
-    mark: &mut [i64],
-    work: &mut [i64],
-) -> CurveAnswer
-    ensures answer { paper result ≡ curve_answer job weights.now
-        (lent_rows low.old high.old bound.old mark.old work.old) }
-    ensures rows { lent_rows low.new high.new bound.new mark.new work.new
-        ≡ curve_lent job weights.now
-        (lent_rows low.old high.old bound.old mark.old work.old) }
+// The rows filled with the curve, and cleared at a total that has a fault; the work row is cleared in any case.
+fn run(recursion: &Recursion<'_>, rows: &mut Rows<'_>) -> Result<(), Refusal<Reason>>
+    requires { Room rows.old × (rows.old.places ≡ recursion.now.job.last + 1) }
+    ensures answer { paper result ≡ first_refusal (faults recursion.now.job recursion.now.weights.now) }
+    ensures rows { lent_in rows.new ≡ ran recursion.now.job recursion.now.weights.now (lent_in rows.old) }
+    ensures same { SameRows rows.new rows.old }
 {
-    let checked = check::check(job, weights, low, high, bound, mark, work);
-    let answer = checked.answer;
-    if is_refused(answer) {
-        return answer;
+    let filled = recursion.fill(rows);
+    let places = rows.places;
+    clear(rows.work, WORK_COLUMNS * places);
+    if let Err(stop) = filled {
+        clear(rows.low, places);
+        clear(rows.high, places);
+        clear(rows.bound, places);
+        clear(rows.mark, places);
+        return Err(Refusal {
+            reason: stop.fault.into(),
+            place: stop.total,
+        });
     }
-    let places = job.last as usize + 1;
-    let stop = fill(job, checked.divisors, weights, low, high, bound, mark, work);
-    clear(work, WORK_COLUMNS * places);
-    if stop.total < places {
-        clear(low, places);
-        clear(high, places);
-        clear(bound, places);
-        clear(mark, places);
-        return refused_at(stop);
-    }
-    answer
+    Ok(())
+}
+
+// The curve of a job from total 0 to its last, in the lent rows.
+pub fn curve(job: Job, weights: &[u64], lent: &mut LentRows<'_>) -> Result<(), Refusal<Reason>>
+    ensures answer { paper result ≡ curve_answer job weights.now (lent_of lent.old) }
+    ensures rows { lent_of lent.new ≡ curve_lent job weights.now (lent_of lent.old) }
+    ensures same { SameLent lent.new lent.old }
+{
+    let recursion = check::check(job, weights, lent)?;
+    let mut rows = Rows {
+        low: lent.low,
+        high: lent.high,
+        bound: lent.bound,
+        mark: lent.mark,
+        work: lent.work,
+        places: job.last as usize + 1,
+    };
+    run(&recursion, &mut rows)
 }

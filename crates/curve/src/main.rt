@@ -16,14 +16,12 @@ fn read_more<R: Read>(input: &mut R, rest: &mut [u8]) -> usize
     ensures within { result ≤ length rest.old }
     ensures bytes { Consumes (R.remaining input.old) (R.remaining input.new) (take result rest.new) }
 {
-    match input.read(rest) {
-        Ok(got) => got,
-        Err(_) => 0,
-    }
+    input.read(rest).unwrap_or(0)
 }
 
 // The buffer has one byte more than a sheet may have, so that a longer input is told from it. Reads until the buffer is full, the input
 // ends or a read fails.
+// `read_exact` does not tell how many bytes a shorter input has.
 fn read_input<R: Read>(input: &mut R, sheet: &mut [u8]) -> usize
     requires { length sheet.old ≡ input_bytes }
     ensures within { result ≤ length sheet.new }
@@ -47,13 +45,11 @@ fn write_more<W: Write>(output: &mut W, sheet: &[u8], done: usize, rest: &[u8]) 
     ensures within { result ≤ length rest.now }
     ensures bytes { Appends (W.contents output.old) (W.contents output.new) (take result rest.now) }
 {
-    match output.write(rest) {
-        Ok(put) => put,
-        Err(_) => 0,
-    }
+    output.write(rest).unwrap_or(0)
 }
 
 // Writes until all of the text is written or a write fails. What is written is a front of the text.
+// `write_all` does not promise that where a write fails.
 fn write_text<W: Write>(output: &mut W, sheet: &[u8], text: &[u8])
     requires { text.now ≡ report_text sheet.now }
     ensures { (n : ℕ)
@@ -72,8 +68,8 @@ fn write_text<W: Write>(output: &mut W, sheet: &[u8], text: &[u8])
 
 fn main(rt: HostRuntime) {
     let mut sheet = [0u8; MOST_BYTES + 1];
-    let count = read_input(&mut rt.stdin(), &mut sheet);
     let mut out = [0u8; report::TEXT_BYTES];
+    let count = read_input(&mut rt.stdin(), &mut sheet);
     let written = report::report(&sheet[..count], &mut out);
     write_text(&mut rt.stdout(), &sheet[..count], &out[..written]);
 }

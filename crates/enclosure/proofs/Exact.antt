@@ -1,5 +1,5 @@
 -- What an entry needs in order to leave a sum exact, by the factor's sign; marks in a row; and the entries of a term that need no look.
-use mathlib.Core.Path.{◌≡◌, refl}
+use mathlib.Core.Path.{◌≡◌, refl, sym, ◌∙◌, ap}
 use mathlib.Core.Bool.{Bool, true, false, ◌&&◌}
 use mathlib.Core.List.{List}
 use mathlib.Core.Logic.{inl, inr}
@@ -9,7 +9,9 @@ use lib.IntN.{ℤ, pos, negsuc}
 use lib.ListN.{get_or}
 use lib.Signed.{◌≤ℤ◌}
 use Rattle.algebra.specs.Table.{same_integer}
-use Rattle.algebra.proofs.And.{both, HoldBelow}
+use Rattle.std.specs.List.{list_all, range_with_len}
+use Rattle.algebra.specs.Sum.{all_of}
+use Rattle.algebra.proofs.And.{both, HoldBelow, hold_next, all_hold, one_fails}
 use Rattle.algebra.proofs.Integer.{signed, *ℤ-nonneg}
 use Rattle.model.specs.Mark.{mark_of, is_exact}
 use Rattle.enclosure.specs.declared.marks.Settled.{Settled}
@@ -35,6 +37,16 @@ module _ (f low high : ℤ) (exact : Bool) where
       by (pos zero) e = refl
       by (pos (suc n)) e = (both {p = exact} {q = same_integer low high} e).0
       by (negsuc n) e = e
+
+-- where each test below a holds, those of the n numbers from a on are the rest of all
+pub rest_of : (test : ℕ → Bool) (a n : ℕ) → HoldBelow test a → list_all test (range_with_len a n) ≡ all_of (a + n) test
+rest_of test a zero h = sym (all_hold (a + zero) test (λ i l. h.each i (omega arith)))
+rest_of test a (suc n) h = by (test a) refl (λ e. rest_of test (a + 1) n (hold_next h e))
+  where
+    by : (t : Bool) → test a ≡ t → (test a ≡ true → list_all test (range_with_len (a + 1) n) ≡ all_of (a + 1 + n) test)
+        → (t && list_all test (range_with_len (a + 1) n)) ≡ all_of (a + suc n) test
+    by true e more = more e ∙ ap (λ (m : ℕ). all_of m test) (omega arith)
+    by false e more = sym (one_fails (a + suc n) test a (omega arith) e)
 
 -- what a mark says
 pub mark_exact : (exact : Bool) → is_exact (mark_of exact) ≡ exact

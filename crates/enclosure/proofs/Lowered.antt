@@ -1,6 +1,6 @@
 -- The raised sums of a run, lowered, are its sums, since that holds of each entry; and none of them is large, since no weight, line or
 -- entry is.
-use mathlib.Core.Path.{◌≡◌, refl, sym, ◌∙◌, ap, ap₂}
+use mathlib.Core.Path.{◌≡◌, refl, sym, ◌∙◌, ap, ap₂, subst}
 use mathlib.Core.List.{List, [], ◌∷◌}
 use Prim.Native.Nat.{ℕ, ◌+◌, ◌-◌, ◌*◌, ◌≤◌, ◌<◌}
 use native.Mathlib.Nat as NL
@@ -139,24 +139,32 @@ module _ (f : Factor) (from to x : ℕ) (weights : List ℕ) (row : ℕ → Entr
         factors_small = omega (arith, s.factors);
       }
 
-  -- ---- one turn of the loop, after i of them: it adds severity y + 1, which is to - i
-  pub record Turn (i severity y : ℕ) : Type 0 where
-    pub line_nonneg : T (non_neg (line_at f severity))
-    pub line_small : nat_abs (line_at f severity) ≤ 1000000
+  -- ---- one turn of the loop, which adds severity s; it is s - 1 from 0
+  pub record Turn (s y : ℕ) : Type 0 where
+    pub line_nonneg : T (non_neg (line_at f s))
+    pub line_small : nat_abs (line_at f s) ≤ 1000000
     pub weight_small : weight y ≤ 1000
-    pub factor_is : nat_abs (line_at f severity) * weight y ≡ nat_abs (line_factor f weights y)
-    pub room : AddRoom (raised_sums f to i x weights row) (nat_abs (line_factor f weights y)) (row (x - (y + 1)))
-    pub line_next : line_at f severity -ℤ f.slope ≡ line_at f y
+    pub factor_is : nat_abs (line_at f s) * weight y ≡ nat_abs (line_factor f weights y)
+    pub room : AddRoom (raised_sums f to (to - s) x weights row) (nat_abs (line_factor f weights y)) (row (x - (y + 1)))
+    pub sums_next : raised_plus (raised_sums f to (to - s) x weights row) (raised_at f x weights row y)
+        ≡ raised_sums f to (to - y) x weights row
+    pub line_next : line_at f s -ℤ f.slope ≡ line_at f y
     pub line_fits : SFits w64 (line_at f y)
     pub slope_fits : SFits w64 f.slope
 
-  pub turn : (i : ℕ) → i < to - from → Turn i (to - i) (to - (i + 1))
-  turn i l =
-      let y = to - (i + 1) in
-      let severity : to - i ≡ y + 1 = omega arith in
-      let t = within y (omega arith) (omega arith) in
+  pub turn : (s y : ℕ) → s ≡ y + 1 → from ≤ y → y < to → Turn s y
+  turn s y e k l =
+      let t = within y k l in
       let most = NL.le_trans (one_weight y weights) h.weights_small in
-      rw severity record {
+      let n = to - (y + 1) in
+      let again : to - (n + 1) ≡ y = omega arith in
+      let more : to - y ≡ n + 1 = omega arith in
+      let next : raised_plus (raised_sums f to n x weights row) (raised_at f x weights row y)
+      ≡ raised_sums f to (to - y) x weights row =
+      ap (λ (v : ℕ). raised_plus (raised_sums f to n x weights row) (raised_at f x weights row v)) (sym again)
+      ∙ accumulate_next raised_none raised_plus n (λ i. raised_at f x weights row (to - (i + 1)))
+      ∙ ap (λ (v : ℕ). raised_sums f to v x weights row) (sym more) in
+      rw e record {
         line_nonneg = yes_non_neg t.line;
         line_small = t.line_small;
         weight_small = most;
@@ -166,9 +174,9 @@ module _ (f : Factor) (from to x : ℕ) (weights : List ℕ) (row : ℕ → Entr
           low_small = t.entry_small.low;
           high_small = t.entry_small.high;
           bound_small = omega (arith, t.entry_small.bound);
-          sums_small = rw (accumulate_next raised_none raised_plus i (λ i. raised_at f x weights row (to - (i + 1))))
-              (run_small (i + 1) (omega arith));
+          sums_small = subst RaisedSmall (sym next) (run_small (to - y) (omega arith));
         };
+        sums_next = next;
         line_next = line_before f.slope f.constant y;
         line_fits = size_fits w64 (line_at f y) (omega (arith, line_size f h.factor_small y (omega (arith, h.below_x, h.x_small))));
         slope_fits = slope_fits f h.factor_small;

@@ -10,7 +10,7 @@ use Rattle.algebra.proofs.Line.{line_negative}
 use Rattle.algebra.proofs.Ring.{neg_mul}
 use Rattle.enclosure.specs.declared.Entry.{Entry}
 use Rattle.enclosure.specs.declared.term.Factor.{Factor}
-use Rattle.enclosure.specs.Entry.{none, plus, opposite, scaled}
+use Rattle.enclosure.specs.Entry.{none, plus, minus, opposite, scaled}
 use Rattle.enclosure.specs.Term.{line_at, line_factor}
 use Rattle.enclosure.specs.Run.{negative, run_sums}
 
@@ -51,3 +51,8 @@ module _ (f : Factor) where
       (λ a c b d p q. opposite_plus a c ∙ ap₂ plus p q) (to - from) _ _
       (λ i l. ap (λ (z : ℤ). opposite (scaled z (row (x - (to - (i + 1) + 1))))) (negative_factor weights (to - (i + 1)))
       ∙ opposite_scaled (line_factor f weights (to - (i + 1))) (row (x - (to - (i + 1) + 1))))
+
+  -- so what the factors add is what comes off with their negatives
+  pub minus_sums : (sums : Entry) (from to x : ℕ) (weights : List ℕ) (row : ℕ → Entry)
+      → minus sums (run_sums (negative f) from to x weights row) ≡ plus sums (run_sums f from to x weights row)
+  minus_sums sums from to x weights row = ap (plus sums) (opposite_sums from to x weights row)

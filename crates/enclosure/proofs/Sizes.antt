@@ -20,7 +20,7 @@ use Rattle.outward.proofs.Division.{ceil_size}
 use Rattle.enclosure.specs.declared.Entry.{Entry}
 use Rattle.enclosure.specs.declared.term.Factor.{Factor}
 use Rattle.enclosure.specs.Entry.{plus, scaled, EntryFits}
-use Rattle.enclosure.specs.Term.{TermRoom, Small, line_at, line_factor, term_at, term_sums}
+use Rattle.enclosure.specs.Term.{TermRoom, Small, line_at, factor_of, line_factor, term_at, term_sums}
 use Rattle.enclosure.specs.Run.{FactorSmall}
 
 -- ---- weights
@@ -77,6 +77,13 @@ module _ (f : Factor) (h : FactorSmall f) where
 
   pub line_size : (y : ℕ) → y ≤ most_last → nat_abs (line_at f y) ≤ 1000000
   line_size y l = omega (arith, size_add (f.slope *ℤ pos y) f.constant, slope_size y l, h.constant_small)
+
+  -- of severity y, whose weight is w
+  pub factor_fits : (y w : ℕ) → y ≤ most_last → w ≤ 1000 → SFits w64 (factor_of f y w)
+  factor_fits y w l k = size_fits w64 (factor_of f y w) (omega (
+    arith,
+    size_mul_le (line_at f y) (pos w) 1000000 1000 (line_size y l) k,
+  ))
 
   pub factor_size : (weights : List ℕ) (y : ℕ) → y < most_last → nat_abs (line_factor f weights y) ≤ get_or weights y 0 * 1000000
   factor_size weights y l = omega (

@@ -1,9 +1,16 @@
 -- What the passes over marks ask for and leave out: entries that are known to be exact need no look.
-use Rattle.std.specs.Prelude.{◌≡◌, Bool, true, ◌&&◌, ◌⊎◌, ℕ, ◌≤◌, ◌<◌, ℤ, pos, ◌≤ℤ◌}
+use Rattle.std.specs.Prelude.{◌≡◌, Bool, true, ◌&&◌, ◌⊎◌, ℕ, ◌≤◌, ◌<◌, ℤ, pos, ◌≤ℤ◌, length}
 use Rattle.algebra.specs.Table.{same_integer}
+use Rattle.enclosure.specs.declared.marks.MarkedRow.{MarkedRow}
 use Rattle.enclosure.specs.declared.marks.Settled.{Settled}
 use Rattle.enclosure.specs.declared.term.Factor.{Factor}
 use Rattle.enclosure.specs.Term.{line_at}
+
+-- a row that has ends and a mark at each total below x
+pub record MarkedLong (row : MarkedRow) (x : ℕ) : Type 0 where
+  pub low : x ≤ length row.low.now
+  pub high : x ≤ length row.high.now
+  pub mark : x ≤ length row.mark.now
 
 -- of a row's entries at the totals below x
 pub record SettledRow (settled : Settled) (x : ℕ) (low high : ℕ → ℤ) (exact : ℕ → Bool) : Type 0 where

@@ -1,3 +1,4 @@
 -- Bottom up: what a file cites stands above it.
 pub mod First
 pub mod Located
+pub mod Split

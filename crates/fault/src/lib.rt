@@ -7,35 +7,27 @@ mod word;
 ghost use Rattle.std.specs.Prelude.{◌≡◌, ◌+◌};
 ghost use Rattle.fault.specs.Call.{faulty_word, faulty_part};
 
-use lines::reason_number;
+use lines::Reason;
 use model::limits::MOST_SEVERITIES;
-use sheet::LineAnswer;
 use sheet::reader::read_text;
 use word::first_faulty;
 
-// A part of a sheet: so many bytes from `start` on, which is counted from 0.
-#[derive(Clone, Copy)]
+// A part of a sheet: so many bytes from `start` on, which is counted from 0. So C is told it (`claimtotals_faulty_word`).
+#[derive(Clone, Copy, Debug, PartialEq, Eq)]
 pub struct Part {
     pub start: usize,
     pub count: usize,
 }
 
 // Where the word that refusal 24 is about stands in the sheet; an empty part at its front after any other answer. `places` is the number of
-// places of the row that the sheet was read for.
+// places of the row that the sheet was read for, by which alone the definition `faulty_part` judges it.
 pub fn faulty_part(sheet: &[u8], places: usize) -> Part
     ensures { result ≡ faulty_part places sheet.now }
 {
     let mut weights = [0u64; MOST_SEVERITIES];
-    let read = read_text(sheet, places, &mut weights);
-    let answer = read.answer;
-    match answer {
-        LineAnswer::Accepted => Part { start: 0, count: 0 },
-        LineAnswer::Refused(reason, line) => {
-            if reason_number(reason) == 24 {
-                return first_faulty(sheet, line);
-            }
-            Part { start: 0, count: 0 }
-        }
+    match read_text(sheet, places, &mut weights) {
+        Err(refusal) if refusal.reason == Reason::Word => first_faulty(sheet, refusal.place),
+        _ => Part { start: 0, count: 0 },
     }
 }
 
@@ -46,8 +38,5 @@ pub fn faulty_word(sheet: &[u8], places: usize) -> &[u8]
     ensures place { result.ref_ptr ≡ (sheet.entry.ref_ptr.0, (faulty_part places sheet.now).start + sheet.entry.ref_ptr.1) }
 {
     let part = faulty_part(sheet, places);
-    let start = part.start;
-    let count = part.count;
-    let rest = &sheet[start..];
-    &rest[..count]
+    &sheet[part.start..part.start + part.count]
 }

@@ -1,30 +1,13 @@
-// The curve call.
+// The curve call. C hands over the numbers of the job one by one, and each row by itself.
 
 ghost use Rattle.std.specs.Prelude.{◌≡◌};
 ghost use Rattle.compound.specs.Lent.{lent_rows};
-ghost use Rattle.compound.specs.Call.{paper, curve_answer, curve_lent};
+ghost use Rattle.compound.specs.Call.{curve_answer, curve_lent};
 ghost use Rattle.interface.specs.Handed.{returned, job_of_numbers};
 
-use compound::{CurveAnswer, curve, reason_number};
+use compound::{LentRows, curve};
+use model::refusal::{number_in, place_in};
 use model::{Job, Law, Start};
-
-fn number_of(answer: CurveAnswer) -> u64
-    ensures { result ≡ (paper answer).number }
-{
-    match answer {
-        CurveAnswer::Accepted => 0,
-        CurveAnswer::Refused(reason, _) => reason_number(reason),
-    }
-}
-
-fn place_of(answer: CurveAnswer) -> usize
-    ensures { result ≡ (paper answer).place }
-{
-    match answer {
-        CurveAnswer::Accepted => 0,
-        CurveAnswer::Refused(_, place) => place,
-    }
-}
 
 #[unsafe(no_mangle)]
 pub extern "C" fn claimtotals_curve(
@@ -69,7 +52,14 @@ pub extern "C" fn claimtotals_curve(
         last,
         zero,
     };
-    let answer = curve(job, weights, low, high, bound, mark, work);
-    *place = place_of(answer);
-    number_of(answer)
+    let mut lent = LentRows {
+        low,
+        high,
+        bound,
+        mark,
+        work,
+    };
+    let answer = curve(job, weights, &mut lent);
+    *place = place_in(&answer);
+    number_in(&answer)
 }

@@ -1,31 +1,22 @@
-// Laws as two publications write them.
+// Laws as two publications write them: two exported calls, both of which C calls by name.
 
 ghost use Rattle.std.specs.Prelude.{◌≡◌};
-ghost use Rattle.published.specs.Call.{answer_of, paper, law_of_panjer_willmot, law_of_hesselager};
+ghost use Rattle.published.specs.Call.{paper, law_of_panjer_willmot, law_of_hesselager};
 ghost use Rattle.interface.specs.Handed.{returned, tells_law, first_order};
 
-use published::{LawAnswer, LawMade, reason_number};
+use model::Law;
+use model::refusal::number_in;
+use published::Reason;
 
-fn number_of(answer: LawAnswer) -> u64
-    ensures { returned result 0 ≡ answer_of answer }
+// After a refusal all numbers are 0.
+fn hand_over(answer: Result<Law, Reason>, divisor: &mut u64, a: &mut i64, b: &mut i64) -> u64
+    ensures { tells_law (returned result 0) divisor.new a.new b.new ≡ first_order (paper answer) }
 {
-    match answer {
-        LawAnswer::Accepted => 0,
-        LawAnswer::Refused(reason) => reason_number(reason),
-    }
-}
-
-fn hand_over(made: LawMade, divisor: &mut u64, a: &mut i64, b: &mut i64) -> u64
-    ensures { tells_law (returned result 0) divisor.new a.new b.new ≡ first_order (paper made) }
-{
-    let answer = made.answer;
-    let law = made.law;
-    let terms_a = law.a;
-    let terms_b = law.b;
+    let law = answer.unwrap_or_default();
     *divisor = law.divisor;
-    *a = terms_a[0];
-    *b = terms_b[0];
-    number_of(answer)
+    *a = law.a[0];
+    *b = law.b[0];
+    number_in(&answer)
 }
 
 #[unsafe(no_mangle)]

@@ -1,23 +1,12 @@
-// Layer costs.
+// Layer costs. C hands over two arrays and a count.
 
 ghost use Rattle.std.specs.Prelude.{◌≡◌};
-ghost use Rattle.layer.specs.Call.{paper, tells_costs, layer_list, layer_costs};
+ghost use Rattle.layer.specs.Call.{tells_costs, layer_list, layer_costs};
 ghost use Rattle.interface.specs.Handed.{returned};
 
-use layer::{LayerList, LayersAnswer, MOST_LAYERS, layers, reason_number};
-
-fn hand_over(answer: LayersAnswer, place: &mut usize) -> u64
-    ensures { returned result place.new ≡ paper answer }
-{
-    *place = 0;
-    match answer {
-        LayersAnswer::Accepted => 0,
-        LayersAnswer::Refused(reason, at) => {
-            *place = at;
-            reason_number(reason)
-        }
-    }
-}
+use intervals::Intervals;
+use layer::{LayerList, MOST_LAYERS, layers};
+use model::refusal::{number_in, place_in};
 
 #[unsafe(no_mangle)]
 pub extern "C" fn claimtotals_layers(
@@ -39,5 +28,7 @@ pub extern "C" fn claimtotals_layers(
         attachments: *attachments,
         limits: *limits,
     };
-    hand_over(layers(low, high, list, answer_low, answer_high), place)
+    let answer = layers(Intervals { low, high }, &list, answer_low, answer_high);
+    *place = place_in(&answer);
+    number_in(&answer)
 }

@@ -1,26 +1,19 @@
-// The level queries.
+// The level queries: two exported calls, both of which C calls by name.
 
 ghost use Rattle.std.specs.Prelude.{◌≡◌};
 ghost use Rattle.quantile.specs.Call.{paper, sure_query, possible_query};
 ghost use Rattle.interface.specs.Handed.{returned, tells_total};
 
-use quantile::{QuantileAnswer, reason_number};
+use intervals::Intervals;
+use model::refusal::{Refusal, number_in, place_in};
+use quantile::Reason;
 
-fn hand_over(answer: QuantileAnswer, place: &mut usize, total: &mut usize) -> u64
+fn hand_over(answer: Result<usize, Refusal<Reason>>, place: &mut usize, total: &mut usize) -> u64
     ensures { tells_total (returned result place.new) total.new ≡ paper answer }
 {
-    *place = 0;
-    *total = 0;
-    match answer {
-        QuantileAnswer::Total(found) => {
-            *total = found;
-            0
-        }
-        QuantileAnswer::Refused(reason, at) => {
-            *place = at;
-            reason_number(reason)
-        }
-    }
+    *place = place_in(&answer);
+    *total = answer.unwrap_or_default();
+    number_in(&answer)
 }
 
 #[unsafe(no_mangle)]
@@ -34,7 +27,7 @@ pub extern "C" fn claimtotals_sure(
     ensures { tells_total (returned result place.new) total.new
         ≡ sure_query low.now high.now level }
 {
-    hand_over(quantile::sure(low, high, level), place, total)
+    hand_over(quantile::sure(Intervals { low, high }, level), place, total)
 }
 
 #[unsafe(no_mangle)]
@@ -48,5 +41,9 @@ pub extern "C" fn claimtotals_possible(
     ensures { tells_total (returned result place.new) total.new
         ≡ possible_query low.now high.now level }
 {
-    hand_over(quantile::possible(low, high, level), place, total)
+    hand_over(
+        quantile::possible(Intervals { low, high }, level),
+        place,
+        total,
+    )
 }

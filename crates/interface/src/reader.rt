@@ -1,32 +1,14 @@
-// The sheet reader, and the place of the faulty word.
+// The sheet reader, and the place of the faulty word. C is told each number by itself.
 
 ghost use Rattle.std.specs.Prelude.{◌≡◌, length};
 ghost use Rattle.grammar.specs.Reading.{reading};
-ghost use Rattle.sheet.specs.Call.{answer_of, told, row_on_return};
+ghost use Rattle.sheet.specs.Call.{told, row_on_return};
 ghost use Rattle.fault.specs.Call.{part_of, faulty_part};
 ghost use Rattle.interface.specs.Handed.{returned, job_of_numbers, tells};
 
 use fault::faulty_part;
-use lines::reason_number;
-use sheet::{LineAnswer, read_sheet};
-
-fn number_of(answer: LineAnswer) -> u64
-    ensures { result ≡ (answer_of answer).number }
-{
-    match answer {
-        LineAnswer::Accepted => 0,
-        LineAnswer::Refused(reason, _) => reason_number(reason),
-    }
-}
-
-fn line_of(answer: LineAnswer) -> usize
-    ensures { result ≡ (answer_of answer).place }
-{
-    match answer {
-        LineAnswer::Accepted => 0,
-        LineAnswer::Refused(_, line) => line,
-    }
-}
+use model::refusal::{number_in, place_in};
+use sheet::read_sheet;
 
 #[unsafe(no_mangle)]
 pub extern "C" fn claimtotals_read_sheet(
@@ -50,25 +32,20 @@ pub extern "C" fn claimtotals_read_sheet(
         ≡ told (reading (length row.old) sheet.now) }
     ensures row { row.new ≡ row_on_return (reading (length row.old) sheet.now) row.old }
 {
-    let read = read_sheet(sheet, row);
+    let answer = read_sheet(sheet, row);
+    let read = answer.unwrap_or_default();
     let job = read.job;
-    let law = job.law;
-    let start = job.start;
-    *order = law.order;
-    *divisor = law.divisor;
-    // an array goes behind a reference by way of a local
-    let terms = law.a;
-    *a = terms;
-    let terms = law.b;
-    *b = terms;
-    *start_low = start.low;
-    *start_high = start.high;
+    *order = job.law.order;
+    *divisor = job.law.divisor;
+    a.copy_from_slice(&job.law.a);
+    b.copy_from_slice(&job.law.b);
+    *start_low = job.start.low;
+    *start_high = job.start.high;
     *last = job.last;
     *zero = job.zero;
     *count = read.count;
-    let answer = read.answer;
-    *line = line_of(answer);
-    number_of(answer)
+    *line = place_in(&answer);
+    number_in(&answer)
 }
 
 #[unsafe(no_mangle)]

@@ -1,24 +1,21 @@
-// The start from the law's own name.
+// The start from the law's own name: two exported calls, both of which C calls by name.
 
 ghost use Rattle.std.specs.Prelude.{◌≡◌};
 ghost use Rattle.start.specs.Call.{paper, start_of_mean, start_of_trials};
 ghost use Rattle.interface.specs.Handed.{returned, tells_start};
 
-use start::{StartAnswer, reason_number};
+use model::Start;
+use model::refusal::number_in;
+use start::Reason;
 
-fn hand_over(answer: StartAnswer, low: &mut u64, high: &mut u64) -> u64
+// After a refusal low and high are 0.
+fn hand_over(answer: Result<Start, Reason>, low: &mut u64, high: &mut u64) -> u64
     ensures { tells_start (returned result 0) low.new high.new ≡ paper answer }
 {
-    *low = 0;
-    *high = 0;
-    match answer {
-        StartAnswer::Given(start) => {
-            *low = start.low;
-            *high = start.high;
-            0
-        }
-        StartAnswer::Refused(reason) => reason_number(reason),
-    }
+    let start = answer.unwrap_or_default();
+    *low = start.low;
+    *high = start.high;
+    number_in(&answer)
 }
 
 #[unsafe(no_mangle)]

@@ -6,6 +6,7 @@ pub mod Sizes
 pub mod Added
 pub mod Paid
 pub mod Continued
+pub mod Turns
 pub mod Passed
 pub mod Returned
 pub mod Enclosed

@@ -1,15 +1,14 @@
 -- Layer costs: "From a curve's rows and up to 64 layers, give for each layer the mean claim between an attachment c and a limit d, in
 -- billionths."
-use Rattle.std.specs.Prelude.{Bool, not, ◌||◌, cond, List, [], ◌∷◌, ◌++◌, ℕ, zero, suc, ltb, ℤ, length, get_or}
+use Rattle.std.specs.Prelude.{Bool, not, ◌||◌, cond, List, [], ◌∷◌, ◌++◌, ℕ, zero, suc, ltb, ℤ, length, get_or, Result}
 use Rattle.algebra.specs.Slice.{listed, written}
-use Rattle.model.specs.Answer.{Answer, Condition, accepted, refused, is_accepted, condition, first_refusal}
+use Rattle.model.specs.declared.refusal.Refusal.{Refusal}
+use Rattle.model.specs.Answer.{Answer, Condition, answer_of, is_accepted, condition, first_refusal}
 use Rattle.model.specs.Limits.{outside}
 use Rattle.intervals.specs.Checks.{rows_condition, entry_condition}
 use Rattle.layer.specs.declared.LayerList.{LayerList}
 use Rattle.layer.specs.declared.Reason.{Reason}
 use Rattle.layer.specs.declared.Reason.TheVariants.{Rows, Entry, Count, Attachment, Limit}
-use Rattle.layer.specs.declared.LayersAnswer.{LayersAnswer}
-use Rattle.layer.specs.declared.LayersAnswer.TheVariants.{Accepted, Refused}
 use Rattle.layer.specs.Layer.{cost_by}
 
 -- ---- the answer
@@ -21,9 +20,8 @@ number_of Attachment = 62
 number_of Limit = 63
 
 -- what the paper says for each answer of the code
-abbrev pub paper : LayersAnswer → Answer
-paper Accepted = accepted
-paper (Refused reason place) = refused (number_of reason) place
+abbrev pub paper : {A : Type 0} → Result A (Refusal Reason) → Answer
+paper result = answer_of number_of result
 
 -- what a call tells: its answer, and the two answer rows afterwards
 pub record LayerCosts : Type 0 where
@@ -59,10 +57,13 @@ costs_by row list = listed (λ i. cost_by row (attachment list i) (limit list i)
 abbrev pub wrong_count : (count low_places high_places : ℕ) → Bool
 wrong_count count low_places high_places = outside 1 most_layers count || (ltb low_places count || ltb high_places count)
 
+abbrev pub count_condition : (count low_places high_places : ℕ) → Condition
+count_condition count low_places high_places = condition (wrong_count count low_places high_places) 61 0
+
 -- "31 and 33 come first", as in a level query
 abbrev pub list_checks : (low high : List ℤ) (count low_places high_places : ℕ) → List Condition
 list_checks low high count low_places high_places =
-    rows_condition low high ∷ entry_condition low high ∷ condition (wrong_count count low_places high_places) 61 0 ∷ []
+    rows_condition low high ∷ entry_condition low high ∷ count_condition count low_places high_places ∷ []
 
 -- of layer i, on rows of so many places: "with 62 a c not below d, then 63 a d above the rows' length"
 abbrev pub layer_conditions : (places c d i : ℕ) → List Condition

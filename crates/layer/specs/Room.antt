@@ -1,6 +1,5 @@
 -- What the crate's own functions ask of a layer, so that every entry that they read is there and no number on the way overflows.
-use Rattle.std.specs.Prelude.{List, ℕ, ◌≤◌, ◌<◌, ℤ, length}
-use Rattle.intervals.specs.Checks.{Summable}
+use Rattle.std.specs.Prelude.{ℕ, ◌≤◌, ◌<◌}
 use Rattle.layer.specs.declared.LayerList.{LayerList}
 use Rattle.layer.specs.Call.{attachment, limit, most_layers}
 
@@ -9,9 +8,8 @@ pub record Fitting (places c d : ℕ) : Type 0 where
   pub ordered : c < d
   pub within : d ≤ places
 
--- a list of layers whose costs by a row are written to an answer row of so many places
-pub record Writable (row : List ℤ) (list : LayerList) (places : ℕ) : Type 0 where
-  pub summable : Summable row
+-- a list of layers whose costs by a row of so many places are written to an answer row of so much room
+pub record Writable (places : ℕ) (list : LayerList) (room : ℕ) : Type 0 where
   pub count_most : list.count ≤ most_layers
-  pub room : list.count ≤ places
-  pub fitting : (i : ℕ) → i < list.count → Fitting (length row) (attachment list i) (limit list i)
+  pub count_fits : list.count ≤ room
+  pub fitting : (i : ℕ) → i < list.count → Fitting places (attachment list i) (limit list i)

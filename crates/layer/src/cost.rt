@@ -3,49 +3,62 @@
 ghost use Rattle.std.specs.Prelude.{◌≡◌, ◌≤◌, pos, length, get_or};
 ghost use Rattle.algebra.specs.Slice.{written};
 ghost use Rattle.algebra.specs.Sum.{sumℤ};
-ghost use Rattle.intervals.specs.Checks.{Summable};
 ghost use Rattle.layer.specs.Layer.{cost_by};
 ghost use Rattle.layer.specs.Call.{costs_by};
 ghost use Rattle.layer.specs.Room.{Fitting, Writable};
 
 use super::LayerList;
+use intervals::SummableRow;
 use model::limits::UNIT;
 
+#[derive(Clone, Copy)]
+struct Layer {
+    attachment: usize,
+    limit: usize,
+}
+
 // The sum of a row's entries below a total.
-fn sum_below(row: &[i64], total: usize) -> i64
-    requires { Summable row.now × (total ≤ length row.now) }
-    ensures { result ≡ sumℤ total (λ x. get_or row.now x (pos 0)) }
+fn sum_below(row: SummableRow, total: usize) -> i64
+    requires { total ≤ length row.entries.now }
+    ensures { result ≡ sumℤ total (λ x. get_or row.entry.entries.now x (pos 0)) }
 {
+    // Not `sum()`, whose bound the proof of a signed sum leaves open.
     let mut sum: i64 = 0;
-    for x in 0..total {
-        sum += row[x];
+    for entry in &row.entries[..total] {
+        sum += *entry;
     }
     sum
 }
 
-// Its width times U less the sum of saving times entry. Below the attachment a layer saves its width, and from there on what the total
-// leaves to the limit.
-fn cost(row: &[i64], attachment: usize, limit: usize) -> i64
-    requires { Summable row.now × Fitting (length row.now) attachment limit }
-    ensures { result ≡ cost_by row.now attachment limit }
-{
-    let width = (limit - attachment) as i64;
-    let mut saved: i64 = width * sum_below(row, attachment);
-    for x in attachment..limit {
-        saved += (limit - x) as i64 * row[x];
+impl Layer {
+    // Its width times U less the sum of saving times entry. Below the attachment a layer saves its width, and from there on what the total
+    // leaves to the limit.
+    fn cost(self, row: SummableRow) -> i64
+        requires { Fitting (length row.entries.now) self.attachment self.limit }
+        ensures { result ≡ cost_by row.entry.entries.now self.attachment self.limit }
+    {
+        let width = self.limit - self.attachment;
+        let mut saved: i64 = width as i64 * sum_below(row, self.attachment);
+        for (past, entry) in row.entries[self.attachment..self.limit].iter().enumerate() {
+            saved += (width - past) as i64 * *entry;
+        }
+        width as i64 * UNIT - saved
     }
-    width * UNIT - saved
 }
 
 // The costs of all layers over the first places of an answer row.
-pub fn write_costs(row: &[i64], list: LayerList, answer: &mut [i64])
-    requires { Writable row.now list (length answer.old) }
-    ensures { answer.new ≡ written (costs_by row.now list) answer.old }
+pub fn write_costs(row: SummableRow, list: &LayerList, answer: &mut [i64])
+    requires { Writable (length row.entries.now) list.now (length answer.old) }
+    ensures { answer.new ≡ written (costs_by row.entry.entries.now list.now) answer.old }
 {
-    let count = list.count;
-    let attachments = list.attachments;
-    let limits = list.limits;
-    for i in 0..count {
-        answer[i] = cost(row, attachments[i], limits[i]);
+    let attachments = &list.attachments[..list.count];
+    let limits = &list.limits[..list.count];
+    for (place, (attachment, limit)) in attachments.iter().zip(limits).enumerate() {
+        let layer = Layer {
+            attachment: *attachment,
+            limit: *limit,
+        };
+        // By place: of what `answer.iter_mut().zip(..)` writes, the proof knows nothing behind the loop.
+        answer[place] = layer.cost(row);
     }
 }

@@ -1,67 +1,53 @@
 -- A line by its parts: the keyword, and the fields after it. Words are split at the first space, so each law goes by the tests that the
 -- definition makes there.
-use mathlib.Core.Path.{◌≡◌, refl, sym, ap, subst, ◌∙◌}
+use mathlib.Core.Path.{◌≡◌, refl, sym, ap, ◌∙◌}
 use mathlib.Core.Bool.{Bool, true, false, ◌&&◌, cond}
 use mathlib.Core.List.{List, [], ◌∷◌}
 use mathlib.Core.Option.{Option, none, some}
-use Prim.Native.Nat.{ℕ, suc, ◌+◌, ◌-◌, ◌≤◌, ◌<◌}
+use Prim.Native.Nat.{ℕ, suc}
 use native.Mathlib.Omega.{arith}
 use borrow.Author.Tests.{ltb-false}
 use lib.Dec.{eqb, eqb-zero-suc, eqb-suc-zero, eqb-suc-suc}
 use lib.IntN.{ℤ}
-use lib.ListN.{length, take, drop}
-use lib.Seq.{take_all, take-add, length-take-le, drop_at}
+use lib.ListN.{length}
+use lib.Seq.{take_all}
+use lib.Pointwise.{pointwise}
+use Rattle.std.proofs.Common.{Result, Ok, Err}
+use Rattle.std.specs.Result.{IsErrAnd}
 use Rattle.algebra.specs.Table.{same_list}
 use Rattle.text.specs.Bytes.{line_end, space}
 use Rattle.text.specs.Lines.{before, after, has, words}
 use Rattle.text.specs.Numbers.{number}
-use Rattle.text.proofs.Scan.{before_take, has_before, words_split, until_before, until_after, until_end, until_found}
+use Rattle.text.proofs.Scan.{Around, before_take, has_before, words_split, same_pointwise}
 use Rattle.text.proofs.Decimal.{decimal_plain, number_is_decimal}
 use Rattle.lines.specs.Line.{Line, numbers, faulty, both, all_numbers, of_numbers, line}
-use Rattle.lines.specs.Parts.{Rest, parts, wrong, after_keyword, head_of, head_within, fields}
-use Rattle.lines.specs.declared.line.Head.{Head}
-use Rattle.lines.specs.declared.line.Head.TheVariants.{Numbers, Refused}
+use Rattle.lines.specs.Parts.{Rest, parts, wrong, after_keyword, fields}
 use Rattle.lines.specs.declared.Reason.{Reason}
-use Rattle.lines.specs.Reason.{number_of}
+
+-- what `?` hands on
+pub handed_on : {T : Type 0} (r : Result T Reason) {reason : Reason} → IsErrAnd r (λ e. e ≡ reason) → r ≡ Err reason
+handed_on (Ok x) h = absurd h
+handed_on (Err e) h = ap Err h
 
 -- ---- the keyword
--- the part of s from a to b is the rest of its first b bytes
-part_between : (s : List ℕ) (a b : ℕ) → a ≤ b → b ≤ length s → take (b - a) (drop a s) ≡ drop a (take b s)
-part_between s a b h k =
-    sym (ap (λ (n : ℕ). drop a (take n s)) {x = b} {y = a + (b - a)} (omega arith)
-    ∙ ap (drop a) (take-add a (b - a) s)
-    ∙ drop_at (take a s) (take (b - a) (drop a s)) a (length-take-le a s (omega arith)))
-
-module _ (keyword s : List ℕ) (end : ℕ) (e : end ≡ length (before line_end s)) where
-  pub no_line_end : length s ≤ end → after_keyword keyword s ≡ wrong 22
+module _ (keyword s : List ℕ) where
+  pub no_line_end : has line_end s ≡ false → after_keyword keyword s ≡ wrong 22
   unfolding after_keyword
-  no_line_end h = rw (until_end line_end s end e h)
+  no_line_end e = rw e
 
-  module _ (k : ℕ) (f : k ≡ length (before space (take end s))) (h : end < length s) where
-    pub no_space : end ≤ k → after_keyword keyword s ≡ wrong 23
+  module _ {text next : List ℕ} (line : Around line_end s text next) where
+    pub no_space : has space text ≡ false → after_keyword keyword s ≡ wrong 23
     unfolding after_keyword
-    no_space g =
-        let n : length (take end s) ≡ end = length-take-le end s (omega arith) in
-        rw (until_found line_end s end e h, ← until_before line_end s end e, until_end space (take end s) k f (omega arith))
+    no_space e = rw (line.ends, line.front_is, e)
 
-    pub keyword_decides : (t : Bool) → k < end → t ≡ same_list eqb (take k (take end s)) keyword
-        → after_keyword keyword s ≡ cond t (head_of s (Numbers (k + 1) end)) (wrong 23)
+    pub keyword_decides : {word part : List ℕ} → Around space text word part → (t : Bool) → t ≡ pointwise eqb word keyword
+        → after_keyword keyword s ≡ cond t (parts part next) (wrong 23)
     unfolding after_keyword
-    keyword_decides t g q =
-        let n : length (take end s) ≡ end = length-take-le end s (omega arith) in
-        rw (
-          q,
-          until_found line_end s end e h,
-          ← until_before line_end s end e,
-          until_found space (take end s) k f (omega arith),
-          ← until_before space (take end s) k f,
-          part_between s (k + 1) end (omega arith) (omega arith),
-          until_after space (take end s) k f,
-          until_after line_end s end e,
-        )
+    keyword_decides {word} f t e =
+        rw (line.ends, line.front_is, line.rest_is, f.ends, f.front_is, f.rest_is, same_pointwise word keyword, ← e)
 
 -- ---- the fields
-abbrev of_rest : Bool → ℕ → Rest → Line
+abbrev pub of_rest : Bool → ℕ → Rest → Line
 of_rest signs count (parts part rest) = fields signs count part rest
 of_rest signs count (wrong n) = faulty n
 
@@ -86,21 +72,10 @@ line_fields signs keyword count s =
     by true false true part rest = rw (eqb-zero-suc count)
     by true false false part rest = refl
 
--- what the code has of a line that begins with its keyword: its numbers stand from start to end
-pub record GoodHead (signs : Bool) (keyword : List ℕ) (count : ℕ) (s : List ℕ) (start end : ℕ) : Type 0 where
-  pub gives : line signs keyword count s ≡ fields signs count (take (end - start) (drop start s)) (drop (end + 1) s)
-  pub within : (start ≤ end) × (end < length s)
-
-module _ (signs : Bool) (keyword : List ℕ) (count : ℕ) (s : List ℕ) {head : Head}
-    (tells : (head_of s head ≡ after_keyword keyword s) × head_within (length s) head) where
-  by_head : {found : Head} → head ≡ found → line signs keyword (suc count) s ≡ of_rest signs (suc count) (head_of s found)
-  by_head e = line_fields signs keyword count s ∙ ap (of_rest signs (suc count)) (sym tells.0 ∙ ap (head_of s) e)
-
-  pub good_head : {start end : ℕ} → head ≡ Numbers start end → GoodHead signs keyword (suc count) s start end
-  good_head e = record { gives = by_head e; within = subst (head_within (length s)) e tells.1 }
-
-  pub faulty_head : {reason : Reason} → head ≡ Refused reason → line signs keyword (suc count) s ≡ faulty (number_of reason)
-  faulty_head e = by_head e
+-- as `read_keyword` tells what follows the keyword
+pub parted : (signs : Bool) (keyword : List ℕ) (count : ℕ) (s : List ℕ) {rest : Rest} → rest ≡ after_keyword keyword s
+    → line signs keyword (suc count) s ≡ of_rest signs (suc count) rest
+parted signs keyword count s tells = line_fields signs keyword count s ∙ ap (of_rest signs (suc count)) (sym tells)
 
 module _ (signs : Bool) (part rest : List ℕ) where
   -- the one word, where there is no space
@@ -139,12 +114,11 @@ module _ (signs : Bool) (count : ℕ) (part rest : List ℕ) where
   unfolding fields
   too_few e = rw (words_split part, e, eqb-suc-suc, eqb-zero-suc)
 
-  pub first_field : has space part ≡ true
-      → fields signs (suc (suc count)) part rest
-      ≡ with_first (number signs (before space part)) (fields signs (suc count) (after space part) rest)
+  pub first_field : {first others : List ℕ} → Around space part first others
+      → fields signs (suc (suc count)) part rest ≡ with_first (number signs first) (fields signs (suc count) others rest)
   unfolding fields all_numbers
-  first_field e =
-      rw (words_split part, e, eqb-suc-suc)
+  first_field f =
+      rw (← f.front_is, ← f.rest_is, words_split part, f.ends, eqb-suc-suc)
       (by (eqb (length (words (after space part))) (suc count)) (number signs (before space part))
       (all_numbers signs (words (after space part))))
     where

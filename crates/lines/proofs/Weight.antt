@@ -1,68 +1,85 @@
 -- A line `W n` by its bytes: behind `W` and a space the rest of the line is its one field, and that is a number.
 use mathlib.Core.Path.{◌≡◌, refl, sym, ap, ◌∙◌}
-use mathlib.Core.Bool.{true, false}
+use mathlib.Core.Bool.{Bool, true, false, ◌&&◌, cond, and-false}
 use mathlib.Core.List.{List, [], ◌∷◌, ◌++◌}
-use Prim.Native.Nat.{ℕ, ◌+◌, ◌-◌, ◌≤◌}
-use native.Mathlib.Omega.{arith}
-use borrow.Author.Tests.{ltb-true}
-use lib.Dec.{eqb, eqb→eq}
-use lib.IntN.{pos}
-use lib.ListN.{length, take, drop, length-drop, take-append-drop}
-use lib.Seq.{drop-drop}
-use Rattle.algebra.specs.Table.{same_list}
-use Rattle.algebra.proofs.Slice.{part_to_end}
-use Rattle.algebra.proofs.Table.{same_list_lem}
-use Rattle.text.specs.declared.NumberLine.{NumberLine}
-use Rattle.text.specs.declared.NumberLine.TheVariants.{Value}
+use mathlib.Core.Option.{Option, none, some}
+use Prim.Native.Nat.{ℕ}
+use borrow.Author.Tests.{eqb-true}
+use lib.Dec.{eqb}
+use lib.IntN.{ℤ, pos}
 use Rattle.text.specs.Bytes.{line_end, space}
 use Rattle.text.specs.Lines.{before, after, has}
-use Rattle.text.specs.Leading.{number_line, line_found}
-use Rattle.text.proofs.Scan.{has_before, until_after}
-use Rattle.text.proofs.Read.{TellsLine, tells_line}
+use Rattle.text.specs.Numbers.{number}
+use Rattle.text.specs.Leading.{with_rest, number_line}
+use Rattle.text.proofs.Read.{tells_line}
 use Rattle.lines.specs.Keywords.{W}
 use Rattle.lines.specs.Line.{numbers, line}
-use Rattle.lines.specs.Parts.{after_keyword, fields}
+use Rattle.lines.specs.Parts.{parts, wrong, after_keyword, fields, weight_line}
 use Rattle.lines.proofs.Parted.{line_fields, field_number}
-
--- the line at the start of s gives the number w, and the next line begins at byte `next`
-pub record GoodWeight (s : List ℕ) (w next : ℕ) : Type 0 where
-  pub gives : line false W 1 s ≡ numbers (pos w ∷ []) (drop next s)
-  pub within : next ≤ length s
 
 -- the keyword and its space
 abbrev front : List ℕ
 front = W ++ (space ∷ [])
 
 -- the line of these and the text s
-after_keyword_lem : (s : List ℕ) → has line_end s ≡ true → line false W 1 (front ++ s) ≡ fields false 1 (before line_end s) (after line_end s)
+after_keyword_lem : (s : List ℕ) → has line_end s ≡ true
+    → line false W 1 (front ++ s) ≡ fields false 1 (before line_end s) (after line_end s)
 unfolding after_keyword before after has
 after_keyword_lem s e = line_fields false W 0 (front ++ s) ∙ rw e
 
-module _ (s : List ℕ) (begins : same_list eqb (take 2 s) front ≡ true) where
-  abbrev rest : List ℕ
-  rest = drop 2 s
+-- a good one is the line
+pub good_weight : (s : List ℕ) {w : ℕ} {rest : List ℕ} → weight_line s ≡ some (pos w, rest) → line false W 1 s ≡ numbers (pos w ∷ []) rest
+good_weight [] e = cc
+good_weight (x ∷ []) e = cc
+good_weight (x ∷ y ∷ s) {w} {rest} e = by (eqb x 0x57) refl (eqb y space) refl e
+  where
+    by : (p : Bool) → eqb x 0x57 ≡ p → (q : Bool) → eqb y space ≡ q → cond (p && q) (number_line s) none ≡ some (pos w, rest)
+        → line false W 1 (x ∷ y ∷ s) ≡ numbers (pos w ∷ []) rest
+    by true k true h e =
+        let l = tells_line s (pos w) rest e in
+        (λ i. line false W 1 (eqb-true x 0x57 k i ∷ eqb-true y space h i ∷ s))
+        ∙ after_keyword_lem s l.ends
+        ∙ field_number false (before line_end s) (after line_end s) (pos w) l.is_number
+        ∙ ap (numbers (pos w ∷ [])) l.others
+    by true k false h e = cc
+    by false k q h e = cc
 
-  stands : s ≡ front ++ rest
-  stands =
-      let keyword = same_list_lem ℕ eqb eqb→eq (take 2 s) front (rw begins tt) in
-      sym (take-append-drop 2 s) ∙ ap (λ (l : List ℕ). l ++ rest) keyword
+clash : {n : ℕ} {part next : List ℕ} → wrong n ≡ parts part next → ⊥
+clash e = cc
 
-  weight_line : {w next : ℕ} → TellsLine rest (pos w) next → GoodWeight s w (2 + next)
-  weight_line {w} {next} l =
-      let part = before line_end rest in
-      let inside = ltb-true (length part) (length rest) (sym (has_before line_end rest) ∙ l.ends) in
-      let from_next = ap (λ (n : ℕ). drop n rest) (sym l.next_line) ∙ drop-drop next 2 s in
-      record {
-        gives =
-            ap (line false W 1) stands
-            ∙ after_keyword_lem rest l.ends
-            ∙ field_number false part (after line_end rest) (pos w) l.is_number
-            ∙ ap (numbers (pos w ∷ [])) (sym (until_after line_end rest (length part) refl) ∙ from_next);
-        within = omega (arith, l.next_line, inside, length-drop 2 s);
-      }
+same_part : {part next part' next' : List ℕ} → parts part next ≡ parts part' next' → part ≡ part'
+same_part e = cc
 
-  -- what the code is told of the part after them
-  pub good_weight : {told : NumberLine} → line_found told ≡ number_line (take (length s - 2) rest) → {w next : ℕ} → told ≡ Value w next
-      → GoodWeight s w (2 + next)
-  good_weight says {w} {next} e =
-      weight_line (tells_line rest (pos w) next (ap number_line (sym (part_to_end s 2)) ∙ sym says ∙ ap line_found e))
+none_told : (s : List ℕ) → has line_end s ≡ true → number_line s ≡ none → number false (before line_end s) ≡ none
+unfolding number_line
+none_told s h e = by (number false (before line_end s)) (simp (h) at e)
+  where
+    by : (n : Option ℤ) → with_rest n (after line_end s) ≡ none → n ≡ none
+    by none e = refl
+    by (some z) e = cc
+
+-- of any other that has the keyword, what follows is no number
+pub no_weight : (s : List ℕ) {part next : List ℕ} → weight_line s ≡ none → after_keyword W s ≡ parts part next → number false part ≡ none
+unfolding after_keyword before after has
+no_weight [] n e = absurd (clash e)
+no_weight (x ∷ []) {part} {next} n e = by (eqb x line_end) refl (eqb x space) refl
+  where
+    by : (p : Bool) → eqb x line_end ≡ p → (q : Bool) → eqb x space ≡ q → number false part ≡ none
+    by true f q g = absurd (clash (simp (f) at e))
+    by false f q g = absurd (clash (simp (f) at e))
+no_weight (x ∷ y ∷ s) {part} {next} n e =
+    by (eqb x line_end) refl (eqb y line_end) refl (eqb x space) refl (eqb y space) refl (eqb x 0x57) refl (has line_end s) refl
+  where
+    by : (a : Bool) → eqb x line_end ≡ a → (b : Bool) → eqb y line_end ≡ b → (c : Bool) → eqb x space ≡ c → (d : Bool) → eqb y space ≡ d
+        → (k : Bool) → eqb x 0x57 ≡ k → (h : Bool) → has line_end s ≡ h → number false part ≡ none
+    by true a' b b' c c' d d' k k' h h' = absurd (clash (simp (a') at e))
+    by false a' true b' true c' d d' k k' h h' = absurd (clash (simp (a', b', c') at e))
+    by false a' true b' false c' d d' k k' h h' = absurd (clash (simp (a', b', c') at e))
+    by false a' false b' true c' d d' k k' false h' = absurd (clash (simp (a', b', c', h') at e))
+    by false a' false b' true c' d d' k k' true h' = absurd (clash (simp (a', b', c', h') at e))
+    by false a' false b' false c' d d' k k' false h' = absurd (clash (simp (a', b', c', h') at e))
+    by false a' false b' false c' true d' false k' true h' = absurd (clash (simp (a', b', c', d', k', h') at e))
+    by false a' false b' false c' true d' true k' true h' =
+        ap (number false) (sym (same_part (simp (a', b', c', d', k', h') at e))) ∙ none_told s h' (simp (k', d') at n)
+    by false a' false b' false c' false d' false k' true h' = absurd (clash (simp (a', b', c', k', h', and-false) at e))
+    by false a' false b' false c' false d' true k' true h' = absurd (clash (simp (a', b', c', d', k', h', and-false) at e))

@@ -1,138 +1,97 @@
 // One line: a keyword, and one number or two.
 
-ghost use Rattle.std.specs.Prelude.{◌≡◌, true, false, List, ℕ, ◌≤◌, nat_abs, length};
-ghost use Rattle.text.specs.Numbers.{sign_fits};
+ghost use Rattle.std.specs.Prelude.{◌≡◌, false, List, ℕ};
 ghost use Rattle.lines.specs.Keywords.{W};
-ghost use Rattle.lines.specs.Line.{line};
-ghost use Rattle.lines.specs.Parts.{after_keyword, head_of, head_within, fields, last_of, one_of, after_one, two_of, after_two};
+ghost use Rattle.lines.specs.Line.{line, faulty};
+ghost use Rattle.lines.specs.Parts.{after_keyword, head_of, fields, last_of, weight_line, one_of, two_of};
+ghost use Rattle.lines.specs.Reason.{number_of};
+ghost use Rattle.std.proofs.Math.Option.{none};
+ghost use Rattle.text.specs.Leading.{line_found};
 
 use super::Reason;
 use super::keywords::W;
-use text::lines::{same, until};
+use text::lines::split_once;
 use text::numbers::{number, number_line};
-use text::{Number, NumberLine};
 
-// The number of a line that has one, without a sign, and where the next line begins.
-#[derive(Clone, Copy)]
-pub enum OneRead {
-    Number(u64, usize),
-    Refused(Reason),
-}
-
-// The numbers of a line that has two, and where the next line begins.
-#[derive(Clone, Copy)]
-pub enum TwoRead {
-    Numbers(i64, i64, usize),
-    Refused(Reason),
-}
-
-// Where the numbers of a line begin, after the space that ends its keyword, and where its line end is.
-#[derive(Clone, Copy)]
-pub enum Head {
-    Numbers(usize, usize),
-    Refused(Reason),
-}
-
-// The last number of a line.
-#[derive(Clone, Copy)]
-pub enum Last {
-    Value(i64),
-    Refused(Reason),
-}
-
-fn read_keyword(rest: &[u8], keyword: &[u8]) -> Head
-    ensures parsed { head_of rest.now result ≡ after_keyword keyword.now rest.now }
-    ensures within { head_within (length rest.now) result }
+// The numbers of a line, after the space that ends its keyword, and the bytes after the line.
+fn read_keyword<'s>(rest: &'s [u8], keyword: &[u8]) -> Result<(&'s [u8], &'s [u8]), Reason>
+    ensures { head_of result ≡ after_keyword keyword.now rest.now }
 {
-    let end = until(rest, b'\n');
-    if end == rest.len() {
-        return Head::Refused(Reason::Missing);
-    }
-    let line = &rest[..end];
-    let space = until(line, b' ');
-    if space == end {
-        return Head::Refused(Reason::Form);
-    }
-    if same(&line[..space], keyword) {
-        Head::Numbers(space + 1, end)
+    let (line, next) = split_once(rest, b'\n').ok_or(Reason::Missing)?;
+    let (word, part) = split_once(line, b' ').ok_or(Reason::Form)?;
+    if word == keyword {
+        Ok((part, next))
     } else {
-        Head::Refused(Reason::Form)
+        Err(Reason::Form)
     }
 }
 
 // `part` is the rest of a line, which is to be one number. That is tried first, as on every good line; where it fails, a space in the part
 // says that there are words too many.
-fn last_number(part: &[u8], signs: bool) -> Last
+fn last_number(part: &[u8], signs: bool) -> Result<i64, Reason>
     ensures { (rest : List ℕ) → last_of result rest ≡ fields signs 1 part.now rest }
 {
     match number(part, signs) {
-        Number::Value(z) => Last::Value(z),
-        Number::NotANumber => {
-            if until(part, b' ') == part.len() {
-                return Last::Refused(Reason::Word);
-            }
-            Last::Refused(Reason::Form)
-        }
+        Some(z) => Ok(z),
+        None if part.contains(&b' ') => Err(Reason::Form),
+        None => Err(Reason::Word),
     }
 }
 
-// A number that has no sign.
-pub fn natural(z: i64) -> u64
-    requires { sign_fits false z ≡ true }
-    ensures { result ≡ nat_abs z }
+// A line `KEYWORD n`: the number, which has no sign, and the bytes after the line.
+pub fn read_one<'s>(rest: &'s [u8], keyword: &[u8]) -> Result<(u64, &'s [u8]), Reason>
+    ensures { one_of result ≡ line false keyword.now 1 rest.now }
 {
-    z as u64
+    let (part, next) = read_keyword(rest, keyword)?;
+    let z = last_number(part, false)?;
+    Ok((z.unsigned_abs(), next))
 }
 
-// A line `KEYWORD n`.
-pub fn read_one(rest: &[u8], keyword: &[u8]) -> OneRead
-    ensures parsed { one_of rest.now result ≡ line false keyword.now 1 rest.now }
-    ensures within { after_one result ≤ length rest.now }
+// The number of a good line `W n`, read in one pass over the line, and the bytes after the line.
+fn good_weight(rest: &[u8]) -> Option<(u64, &[u8])>
+    ensures { line_found result ≡ weight_line rest.now }
 {
-    match read_keyword(rest, keyword) {
-        Head::Refused(reason) => OneRead::Refused(reason),
-        Head::Numbers(start, end) => match last_number(&rest[start..end], false) {
-            Last::Refused(reason) => OneRead::Refused(reason),
-            Last::Value(z) => OneRead::Number(natural(z), end + 1),
-        },
+    let [b'W', b' ', numbers @ ..] = rest else {
+        return None;
+    };
+    number_line(numbers)
+}
+
+// Why any other line is refused where such a line is due.
+fn weight_refusal(rest: &[u8]) -> Reason
+    requires { weight_line rest.now ≡ none }
+    ensures { faulty (number_of result) ≡ line false W 1 rest.now }
+{
+    match read_keyword(rest, &W) {
+        Err(reason) => reason,
+        Ok((part, _)) if part.contains(&b' ') => Reason::Form,
+        Ok(_) => Reason::Word,
     }
 }
 
-// A line `W n`, of which a sheet may have 500. A good one has 4 bytes or more and is read in one pass. Any other is read as every line is,
-// which finds its refusal.
-pub fn read_weight(rest: &[u8]) -> OneRead
-    ensures parsed { one_of rest.now result ≡ line false W 1 rest.now }
-    ensures within { after_one result ≤ length rest.now }
+// A line `W n`, of which a sheet may have 500.
+pub fn read_weight(rest: &[u8]) -> Result<(u64, &[u8]), Reason>
+    ensures { one_of result ≡ line false W 1 rest.now }
 {
-    if 3 < rest.len() && same(&rest[..2], b"W ") {
-        if let NumberLine::Value(w, next) = number_line(&rest[2..]) {
-            return OneRead::Number(w, 2 + next);
-        }
+    match good_weight(rest) {
+        Some(read) => Ok(read),
+        None => Err(weight_refusal(rest)),
     }
-    read_one(rest, &W)
 }
 
-// A line `KEYWORD n n`; `signs` says whether its numbers may have a sign.
-pub fn read_two(rest: &[u8], keyword: &[u8], signs: bool) -> TwoRead
-    ensures parsed { two_of rest.now result ≡ line signs keyword.now 2 rest.now }
-    ensures within { after_two result ≤ length rest.now }
+// A line `KEYWORD n n`: its numbers, and the bytes after the line; `signs` says whether the numbers may have a sign. One function for any
+// count of numbers would be no plainer: here the last word goes first, and only `read_one` turns its number into one without a sign.
+pub fn read_two<'s>(
+    rest: &'s [u8],
+    keyword: &[u8],
+    signs: bool,
+) -> Result<(i64, i64, &'s [u8]), Reason>
+    ensures { two_of result ≡ line signs keyword.now 2 rest.now }
 {
-    match read_keyword(rest, keyword) {
-        Head::Refused(reason) => TwoRead::Refused(reason),
-        Head::Numbers(start, end) => {
-            let part = &rest[start..end];
-            let space = until(part, b' ');
-            if space == part.len() {
-                return TwoRead::Refused(Reason::Form);
-            }
-            // the last word first: a wrong count of words (23) goes before a first word that is no number (24)
-            match last_number(&part[space + 1..], signs) {
-                Last::Refused(reason) => TwoRead::Refused(reason),
-                Last::Value(z) => match number(&part[..space], signs) {
-                    Number::NotANumber => TwoRead::Refused(Reason::Word),
-                    Number::Value(y) => TwoRead::Numbers(y, z, end + 1),
-                },
-            }
-        }
-    }
+    let (part, next) = read_keyword(rest, keyword)?;
+    let (first, last) = split_once(part, b' ').ok_or(Reason::Form)?;
+    // the last word first: a wrong count of words (23) goes before a first word that is no number (24)
+    let z = last_number(last, signs)?;
+    let y = number(first, signs).ok_or(Reason::Word)?;
+    Ok((y, z, next))
 }

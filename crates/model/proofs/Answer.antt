@@ -164,3 +164,22 @@ first_passed cs ds t e = by (is_accepted (first_refusal cs)) refl (sym (first_ap
     by : (b : Bool) → is_accepted (first_refusal cs) ≡ b → cond b (first_refusal ds) (first_refusal cs) ≡ accepted → is_accepted (first_refusal cs) ≡ true
     by true p q = p
     by false p q = ap is_accepted q
+
+-- ---- a call's steps
+-- each step answers for the conditions of its own, and the call hands its refusal on
+pub step_refuses : (cs ds : List Condition) (number place : ℕ) → eqb number 0 ≡ false → refused number place ≡ first_refusal cs
+    → refused number place ≡ first_refusal (cs ++ ds)
+unfolding first_refusal
+step_refuses [] ds number place numbered e = absurd (true≢false (ap is_accepted (sym e) ∙ numbered))
+step_refuses (c ∷ cs) ds number place numbered e = by c.holds e (step_refuses cs ds number place numbered)
+  where
+    by : (b : Bool) → refused number place ≡ cond b (refused c.number c.place) (first_refusal cs)
+        → (refused number place ≡ first_refusal cs → refused number place ≡ first_refusal (cs ++ ds))
+        → refused number place ≡ cond b (refused c.number c.place) (first_refusal (cs ++ ds))
+    by true e rest = e
+    by false e rest = rest e
+
+-- where it accepts, those of the next steps count
+pub step_accepts : (cs ds : List Condition) → T (all_numbered cs) → accepted ≡ first_refusal cs
+    → first_refusal ds ≡ first_refusal (cs ++ ds)
+step_accepts cs ds t e = sym (first_append cs ds t ∙ ap (λ (a : Answer). cond (is_accepted a) (first_refusal ds) a) (sym e))

@@ -22,7 +22,7 @@ pub const MOST_TOTALS: usize = MOST_LAST + 1;
 pub fn is_outside(least: u64, most: u64, n: u64) -> bool
     ensures { result ≡ outside least most n }
 {
-    n < least || most < n
+    !(least..=most).contains(&n)
 }
 
 // Whether `z` lies outside -`limit` to `limit`.
@@ -30,7 +30,7 @@ pub fn is_beyond(limit: i64, z: i64) -> bool
     requires { pos 0 ≤ℤ limit }
     ensures { result ≡ beyond (nat_abs limit) z }
 {
-    z < -limit || limit < z
+    !(-limit..=limit).contains(&z)
 }
 
 // Whether one of two numbers does.

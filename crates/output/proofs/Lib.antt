@@ -1,2 +1,3 @@
--- Laws of texts put one after the other.
+-- Laws of texts put one after the other, and of numbers' texts.
 pub mod Put
+pub mod Printed

@@ -1,5 +1,5 @@
 -- Wish 3: "Customers copy coefficients from two publications. .. Turn either, of order 1, into our terms."
-use Rattle.std.specs.Prelude.{Bool, not, ◌||◌, cond, List, [], ◌∷◌, ℕ, ℤ, pos, neg_ℤ, nat_abs, ◌-ℤ◌}
+use Rattle.std.specs.Prelude.{Bool, not, ◌||◌, cond, List, [], ◌∷◌, ℕ, ℤ, pos, neg_ℤ, nat_abs, ◌-ℤ◌, Result, Ok, Err}
 use Rattle.std.specs.Int.Signed.{lt_z}
 use Rattle.algebra.specs.Table.{same_integer}
 use Rattle.model.specs.declared.Law.{Law}
@@ -8,19 +8,12 @@ use Rattle.model.specs.Answer.{Answer, Condition, accepted, refused, is_accepted
 use Rattle.model.specs.Limits.{outside, beyond}
 use Rattle.published.specs.declared.Reason.{Reason}
 use Rattle.published.specs.declared.Reason.TheVariants.{Constant, Coefficient, Limits}
-use Rattle.published.specs.declared.LawAnswer.{LawAnswer}
-use Rattle.published.specs.declared.LawAnswer.TheVariants.{Accepted, Refused}
-use Rattle.published.specs.declared.LawMade.{LawMade}
 
 -- ---- the answer
 abbrev pub number_of : Reason → ℕ
 number_of Constant = 51
 number_of Coefficient = 52
 number_of Limits = 53
-
-abbrev pub answer_of : LawAnswer → Answer
-answer_of Accepted = accepted
-answer_of (Refused reason) = refused (number_of reason) 0
 
 -- the number of a refusal, 0 for none, with its place, which is always 0; and the law
 pub record Made : Type 0 where
@@ -29,10 +22,6 @@ pub record Made : Type 0 where
 
 abbrev pub answered : Answer → Law → Made
 answered answer law = record { answer = answer; law = law }
-
--- what the paper says for each answer of the code
-abbrev pub paper : LawMade → Made
-paper made = answered (answer_of made.answer) made.law
 
 -- ---- "Turn either, of order 1, into our terms"
 -- with k, D, A_1 and B_1; "Terms past k are zero."
@@ -63,6 +52,11 @@ checks constant D A B =
 -- "the other numbers in its answer are 0" after a refusal
 abbrev pub no_law : Law
 no_law = law_of_term 0 0 (pos 0) (pos 0)
+
+-- what the paper says for each answer of the code
+abbrev pub paper : Result Law Reason → Made
+paper (Ok law) = answered accepted law
+paper (Err reason) = answered (refused (number_of reason) 0) no_law
 
 abbrev pub unless_refused : Answer → Law → Made
 unless_refused answer law = answered answer (cond (is_accepted answer) law no_law)

@@ -1,3 +1,3 @@
--- The answers of the two calls (`Joined`); quantiles of exact amounts (`Enclosed`).
-pub mod Joined
+-- The answers of the two calls (`Steps`); quantiles of exact amounts (`Enclosed`).
+pub mod Steps
 pub mod Enclosed

@@ -1,15 +1,15 @@
 -- The level query, in two calls, sure and possible. Each "takes a low row, a high row and a level L", and answers one total.
-use Rattle.std.specs.Prelude.{Bool, ◌||◌, cond, List, [], ◌∷◌, ◌++◌, ℕ, suc, eqb, ℤ, pos, length, get_or}
+use Rattle.std.specs.Prelude.{Bool, ◌||◌, cond, List, [], ◌∷◌, ◌++◌, ℕ, suc, eqb, ℤ, pos, length, get_or, Result, Ok, Err}
+use Rattle.std.specs.Prelude.{Option, Some, None}
 use Rattle.std.specs.Int.Signed.{le_z, lt_z}
 use Rattle.algebra.specs.Smallest.{smallest}
 use Rattle.algebra.specs.Sum.{sumℤ}
 use Rattle.model.specs.Answer.{Answer, Condition, accepted, refused, is_accepted, condition, first_refusal}
+use Rattle.model.specs.declared.refusal.Refusal.{Refusal}
 use Rattle.model.specs.Limits.{unit}
 use Rattle.intervals.specs.Checks.{rows_condition, entry_condition}
 use Rattle.quantile.specs.declared.Reason.{Reason}
 use Rattle.quantile.specs.declared.Reason.TheVariants.{Rows, Level, Entry, LowsShort, HighsShort}
-use Rattle.quantile.specs.declared.QuantileAnswer.{QuantileAnswer}
-use Rattle.quantile.specs.declared.QuantileAnswer.TheVariants.{Total, Refused}
 
 -- ---- the answer
 abbrev pub number_of : Reason → ℕ
@@ -25,9 +25,9 @@ pub record Found : Type 0 where
   pub total : ℕ
 
 -- what the paper says for each answer of the code; after a refusal "the other numbers in its answer are 0"
-abbrev pub paper : QuantileAnswer → Found
-paper (Total total) = record { answer = accepted; total = total }
-paper (Refused reason place) = record { answer = refused (number_of reason) place; total = 0 }
+abbrev pub paper : Result ℕ (Refusal Reason) → Found
+paper (Ok total) = record { answer = accepted; total = total }
+paper (Err refusal) = record { answer = refused (number_of refusal.reason) refusal.place; total = 0 }
 
 -- ---- the search
 -- the sum of a row's entries "from 0 to" x
@@ -44,14 +44,21 @@ quantile_of row level = smallest (λ x. le_z level (running_sum row x)) (length 
 abbrev pub wrong_level : ℤ → Bool
 wrong_level level = lt_z level (pos 1) || lt_z (pos unit) level
 
+abbrev pub level_condition : ℤ → Condition
+level_condition level = condition (wrong_level level) 32 0
+
 -- "Checks 31 to 33 stay in both"
 abbrev pub checks : List ℤ → List ℤ → ℤ → List Condition
-checks low high level = rows_condition low high ∷ condition (wrong_level level) 32 0 ∷ entry_condition low high ∷ []
+checks low high level = rows_condition low high ∷ level_condition level ∷ entry_condition low high ∷ []
 
 -- 34, of the lows: "no total has a sum of lows, from 0 to it, of L or more"; 35, of the highs: "when no sum of highs reaches L". The search
 -- then comes to the row's end.
 abbrev pub unreached : List ℤ → ℤ → Bool
 unreached row level = eqb (quantile_of row level) (length row)
+
+-- the same as the code finds it: none where there is none
+abbrev pub total_found : List ℤ → ℤ → Option ℕ
+total_found row level = cond (unreached row level) None (Some (quantile_of row level))
 
 abbrev pub reach_check : (row : List ℤ) (number : ℕ) (level : ℤ) → List Condition
 reach_check row number level = condition (unreached row level) number 0 ∷ []

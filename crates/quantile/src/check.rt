@@ -1,39 +1,31 @@
 // Refusals 31 to 33, which both queries have: the rows' lengths, the level, the rows' entries.
 
-ghost use Rattle.std.specs.Prelude.{◌≡◌};
-ghost use Rattle.model.specs.Answer.{first_refusal};
-ghost use Rattle.quantile.specs.Call.{wrong_level, checks};
-ghost use Rattle.quantile.specs.Checked.{check_answer};
+ghost use Rattle.std.specs.Prelude.{◌≡◌, ◌∷◌, [], IfOk};
+ghost use Rattle.model.specs.Answer.{answer_of, first_refusal};
+ghost use Rattle.quantile.specs.Call.{number_of, level_condition, checks};
 
 use super::Reason;
-use intervals::{are_wrong_rows, first_wrong_entry};
+use intervals::{CheckedIntervals, Intervals};
 use model::limits::UNIT;
+use model::refusal::Refusal;
 
-#[derive(Clone, Copy)]
-pub enum Check {
-    Passed,
-    // The reason and its place.
-    Refused(Reason, usize),
+#[tactic(auto, unfolding(model::specs::Answer::first_refusal))]
+fn check_level(level: i64) -> Result<(), Refusal<Reason>>
+    ensures { answer_of number_of result ≡ first_refusal (level_condition level ∷ []) }
+{
+    if !(1..=UNIT).contains(&level) {
+        return Err(Reason::Level.into());
+    }
+    Ok(())
 }
 
-fn is_wrong_level(level: i64) -> bool
-    ensures { result ≡ wrong_level level }
+pub fn checked<'a>(rows: Intervals<'a>, level: i64) -> Result<CheckedIntervals<'a>, Refusal<Reason>>
+    ensures answer { answer_of number_of result
+        ≡ first_refusal (checks rows.entry.low.now rows.entry.high.now level) }
+    ensures same_rows { IfOk result (λ checked.
+        (checked.low.entries.now ≡ rows.entry.low.now) × (checked.high.entries.now ≡ rows.entry.high.now)) }
 {
-    level < 1 || UNIT < level
-}
-
-pub fn checked(low: &[i64], high: &[i64], level: i64) -> Check
-    ensures { check_answer result ≡ first_refusal (checks low.now high.now level) }
-{
-    if are_wrong_rows(low.len(), high.len()) {
-        return Check::Refused(Reason::Rows, 0);
-    }
-    if is_wrong_level(level) {
-        return Check::Refused(Reason::Level, 0);
-    }
-    let entry = first_wrong_entry(low, high);
-    if entry < low.len() {
-        return Check::Refused(Reason::Entry, entry);
-    }
-    Check::Passed
+    rows.check_lengths(Reason::Rows)?;
+    check_level(level)?;
+    rows.check_entries(Reason::Entry)
 }

@@ -7,83 +7,54 @@ mod search;
 
 ghost use Rattle.std.specs.Prelude.{◌≡◌};
 ghost use Rattle.model.specs.Answer.{first_refusal};
-ghost use Rattle.intervals.specs.Checks.{Summable};
-ghost use Rattle.quantile.specs.declared.check.Check.TheVariants.{Passed};
 ghost use Rattle.quantile.specs.Call.{number_of, paper, quantile_of, reach_check, answered, sure_query, possible_query};
-ghost use Rattle.quantile.specs.Checked.{check_answer, after_checks};
 
-use check::{Check, checked};
+use check::checked;
+use intervals::{Intervals, SummableRow};
+use model::refusal::{Numbered, Refusal};
 use search::quantile_of;
 
-// Why a query refuses.
-#[derive(Clone, Copy)]
+// Why a query refuses, by the paper's numbers.
+#[derive(Clone, Copy, Debug, PartialEq, Eq)]
 pub enum Reason {
-    // 31: rows empty, unequal in length or longer than 501.
-    Rows,
-    // 32: the level is not 1 to U.
-    Level,
-    // 33: an entry outside -2U to 2U, or a low above its high.
-    Entry,
-    // 34, of sure: no sum of lows reaches the level.
-    LowsShort,
-    // 35, of possible: no sum of highs reaches the level.
-    HighsShort,
+    // Rows empty, unequal in length or longer than 501.
+    Rows = 31,
+    // The level is not 1 to U.
+    Level = 32,
+    // An entry outside -2U to 2U, or a low above its high: its place is that of the first.
+    Entry = 33,
+    // Of sure: no sum of lows reaches the level.
+    LowsShort = 34,
+    // Of possible: no sum of highs reaches the level.
+    HighsShort = 35,
 }
 
-#[derive(Clone, Copy)]
-pub enum QuantileAnswer {
-    Total(usize),
-    // The reason and its place: that of the first wrong entry, and 0 for the other reasons.
-    Refused(Reason, usize),
-}
+impl Numbered for Reason {
+    ghost number_of = { number_of };
 
-// The paper's number of a reason.
-pub fn reason_number(reason: Reason) -> u64
-    ensures { result ≡ number_of reason }
-{
-    match reason {
-        Reason::Rows => 31,
-        Reason::Level => 32,
-        Reason::Entry => 33,
-        Reason::LowsShort => 34,
-        Reason::HighsShort => 35,
+    fn number(self) -> u64 {
+        self as u64
     }
 }
 
 // The total of a row, and the reason given where no sum of the row reaches the level.
-fn total_of(row: &[i64], level: i64, short: Reason) -> QuantileAnswer
-    requires { Summable row.now }
-    ensures { paper result ≡ answered (first_refusal (reach_check row.now (number_of short) level))
-        (quantile_of row.now level) }
+fn total_of(row: SummableRow, level: i64, short: Reason) -> Result<usize, Refusal<Reason>>
+    ensures { paper result
+        ≡ answered (first_refusal (reach_check row.entry.entries.now (number_of short) level)) (quantile_of row.entry.entries.now level) }
 {
-    let total = quantile_of(row, level);
-    if total < row.len() {
-        return QuantileAnswer::Total(total);
-    }
-    QuantileAnswer::Refused(short, 0)
+    quantile_of(row, level).ok_or(short.into())
 }
 
-// A query by one of the rows, after the checks.
-fn query_by(check: Check, row: &[i64], level: i64, short: Reason) -> QuantileAnswer
-    requires { check ≡ Passed → Summable row.now }
-    ensures { paper result ≡ after_checks (check_answer check) row.now (number_of short) level }
+// The smallest total whose lows, summed from total 0, reach the level. It and `possible` are two calls, as the paper has them.
+pub fn sure(rows: Intervals, level: i64) -> Result<usize, Refusal<Reason>>
+    ensures { paper result ≡ sure_query rows.entry.low.now rows.entry.high.now level }
 {
-    match check {
-        Check::Passed => total_of(row, level, short),
-        Check::Refused(reason, place) => QuantileAnswer::Refused(reason, place),
-    }
-}
-
-// The smallest total whose lows, summed from total 0, reach the level.
-pub fn sure(low: &[i64], high: &[i64], level: i64) -> QuantileAnswer
-    ensures { paper result ≡ sure_query low.now high.now level }
-{
-    query_by(checked(low, high, level), low, level, Reason::LowsShort)
+    total_of(checked(rows, level)?.low, level, Reason::LowsShort)
 }
 
 // The smallest total whose highs, summed from total 0, reach the level. The lows need not.
-pub fn possible(low: &[i64], high: &[i64], level: i64) -> QuantileAnswer
-    ensures { paper result ≡ possible_query low.now high.now level }
+pub fn possible(rows: Intervals, level: i64) -> Result<usize, Refusal<Reason>>
+    ensures { paper result ≡ possible_query rows.entry.low.now rows.entry.high.now level }
 {
-    query_by(checked(low, high, level), high, level, Reason::HighsShort)
+    total_of(checked(rows, level)?.high, level, Reason::HighsShort)
 }

@@ -1,20 +1,20 @@
 // The one search of the level queries: sure is its answer on the lows, possible its answer on the highs.
 
 ghost use Rattle.std.specs.Prelude.{◌≡◌};
-ghost use Rattle.intervals.specs.Checks.{Summable};
-ghost use Rattle.quantile.specs.Call.{quantile_of};
+ghost use Rattle.quantile.specs.Call.{total_found};
 
-// The smallest total whose entries, summed from total 0, reach the level, and the row's length where none does.
-pub fn quantile_of(row: &[i64], level: i64) -> usize
-    requires { Summable row.now }
-    ensures { result ≡ quantile_of row.now level }
+use intervals::SummableRow;
+
+// The smallest total whose entries, summed from total 0, reach the level.
+pub fn quantile_of(row: SummableRow, level: i64) -> Option<usize>
+    ensures { result ≡ total_found row.entry.entries.now level }
 {
     let mut sum: i64 = 0;
-    for x in 0..row.len() {
-        sum += row[x];
+    for (x, entry) in row.entries.iter().enumerate() {
+        sum += *entry;
         if level <= sum {
-            return x;
+            return Some(x);
         }
     }
-    row.len()
+    None
 }

@@ -4,14 +4,15 @@
 
 ghost use Rattle.std.specs.Prelude.{◌≡◌, length};
 ghost use Rattle.algebra.specs.Slice.{written};
-ghost use Rattle.output.specs.Output.{output, Puts};
+ghost use Rattle.output.specs.Output.{Puts};
 ghost use Rattle.report.specs.Report.{curve_text, report_text};
 
-use compound::CurveAnswer;
+use compound::LentRows;
 use model::Job;
 use model::limits::{MOST_SEVERITIES, MOST_TOTALS};
+use output::Output;
 use rows::layout::WORK_COLUMNS;
-use sheet::LineAnswer;
+use table::{Table, put_refusal};
 
 // The places of the work row for the most totals.
 const WORK_PLACES: usize = WORK_COLUMNS * MOST_TOTALS;
@@ -20,43 +21,53 @@ const WORK_PLACES: usize = WORK_COLUMNS * MOST_TOTALS;
 pub const TEXT_BYTES: usize = 21_504;
 
 // The table of a job's curve, or the line that refuses the job.
-fn put_curve(out: &mut [u8], job: Job, weights: &[u64]) -> usize
-    ensures { Puts (curve_text job weights.now) (output out.old 0) (output out.new result) }
+fn put_curve(out: &mut Output, job: Job, weights: &[u64])
+    ensures { Puts (curve_text job weights.now) out.old out.new }
 {
-    let mut low = [0i64; MOST_TOTALS];
-    let mut high = [0i64; MOST_TOTALS];
-    let mut bound = [0i64; MOST_TOTALS];
-    let mut mark = [0i64; MOST_TOTALS];
-    let mut work = [0i64; WORK_PLACES];
-    let answer = compound::curve(
-        job, weights, &mut low, &mut high, &mut bound, &mut mark, &mut work,
-    );
-    match answer {
-        CurveAnswer::Accepted => {
-            table::put_table(out, job.last as usize + 1, &low, &high, &bound, &mark)
+    let mut low = [0; MOST_TOTALS];
+    let mut high = [0; MOST_TOTALS];
+    let mut bound = [0; MOST_TOTALS];
+    let mut mark = [0; MOST_TOTALS];
+    let mut work = [0; WORK_PLACES];
+    let mut rows = LentRows {
+        low: &mut low,
+        high: &mut high,
+        bound: &mut bound,
+        mark: &mut mark,
+        work: &mut work,
+    };
+    match compound::curve(job, weights, &mut rows) {
+        Ok(()) => {
+            let table = Table {
+                totals: job.last as usize + 1,
+                low: &low,
+                high: &high,
+                bound: &bound,
+                mark: &mark,
+            };
+            table.put(out);
         }
-        CurveAnswer::Refused(reason, place) => {
-            table::put_refusal(out, compound::reason_number(reason), place)
-        }
+        Err(refusal) => put_refusal(out, refusal),
     }
 }
 
-// What the program writes on a sheet, put into the first places of `out`; the answer is the number of its bytes.
+// What the program writes on a sheet.
+fn put_report(out: &mut Output, sheet: &[u8])
+    ensures { Puts (report_text sheet.now) out.old out.new }
+{
+    let mut row = [0; MOST_SEVERITIES];
+    match sheet::reader::read_text(sheet, MOST_SEVERITIES, &mut row) {
+        Ok(read) => put_curve(out, read.job, &row[..read.count]),
+        Err(refusal) => put_refusal(out, refusal),
+    }
+}
+
+// Puts it into the first places of `out`; the answer is the number of its bytes.
 pub fn report(sheet: &[u8], out: &mut [u8; TEXT_BYTES]) -> usize
     ensures count { result ≡ length (report_text sheet.now) }
     ensures bytes { out.new ≡ written (report_text sheet.now) out.old }
 {
-    let mut row = [0u64; MOST_SEVERITIES];
-    let read = sheet::reader::read_text(sheet, MOST_SEVERITIES, &mut row);
-    let answer = read.answer;
-    match answer {
-        LineAnswer::Accepted => {
-            let job = read.job;
-            let count = read.count;
-            put_curve(out, job, &row[..count])
-        }
-        LineAnswer::Refused(reason, line) => {
-            table::put_refusal(out, lines::reason_number(reason), line)
-        }
-    }
+    let mut text = Output::new(out);
+    put_report(&mut text, sheet);
+    text.at
 }

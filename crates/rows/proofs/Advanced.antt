@@ -10,18 +10,17 @@ use lib.Dec.{lit≤}
 use Rattle.algebra.proofs.Sum.{accumulate_zero, accumulate_next}
 use Rattle.model.specs.declared.Job.{Job}
 use Rattle.enclosure.specs.declared.Entry.{Entry}
-use Rattle.enclosure.specs.Entry.{out_of_range, bound_too_large}
 use Rattle.enclosure.specs.Term.{Small}
-use Rattle.rows.specs.declared.fill.Faults.{Faults}
 use Rattle.rows.specs.Curve.{Rows, entry_at}
-use Rattle.rows.specs.Layout.{Lent, work_places, Reachable, column_at, stored, placed}
-use Rattle.rows.specs.Progress.{Ready, faults_below, RowsKept, Advanced}
+use Rattle.rows.specs.Layout.{Lent, work_places, column_at, stored, placed}
+use Rattle.rows.specs.Faults.{any_row}
+use Rattle.rows.specs.Progress.{RowsKept, Advanced}
 use Rattle.rows.proofs.Kept.{kept_set, rows_untouched, long_kept}
 use Rattle.rows.proofs.Recursion.{entry_local}
-use Rattle.rows.proofs.Stored.{column_within, placed_other, placed_own}
-use Rattle.rows.proofs.Sums.{reachable}
+use Rattle.rows.proofs.Stored.{Reachable, column_within, placed_other, placed_own}
+use Rattle.rows.proofs.Sums.{ReadyIn, reachable}
 
-module _ (job : Job) (weights : List ℕ) (places x : ℕ) (lent₀ : Lent) (ready : Ready job.law weights places x lent₀) where
+module _ (job : Job) (weights : List ℕ) (places x : ℕ) (lent₀ : Lent) (ready : ReadyIn job.law weights places x lent₀) where
   pub advanced_first : Advanced job weights places x 0 lent₀ lent₀
   advanced_first = record {
     kept = rows_untouched (x + 1) places lent₀;
@@ -31,7 +30,7 @@ module _ (job : Job) (weights : List ℕ) (places x : ℕ) (lent₀ : Lent) (rea
 
   module _ (n : ℕ) (lent : Lent) (so_far : Advanced job weights places x n lent₀ lent) where
     -- the rows still have room, and no earlier entry has a fault
-    pub advanced_ready : Ready job.law weights places x lent
+    pub advanced_ready : ReadyIn job.law weights places x lent
     advanced_ready = record {
       basis = record {
         law_limits = ready.basis.law_limits;
@@ -91,18 +90,12 @@ module _ (job : Job) (weights : List ℕ) (places x : ℕ) (lent₀ : Lent) (rea
             placed_other places lent x e n j x reach.total_below reach.total_below (λ p q. omega arith) ∙ so_far.entries j l
 
 -- ---- faults, noted row by row
-pub same_faults : {p p' q q' : Bool} → p ≡ p' → q ≡ q'
-    → ◌≡◌ {A = Faults} (record { range = p; bound = q }) (record { range = p'; bound = q' })
-same_faults p q = λ i. record { range = p i; bound = q i }
+module _ (fault : Entry → Bool) (rows : Rows) (x : ℕ) where
+  pub fault_none : false ≡ any_row fault 0 rows x
+  fault_none = sym (accumulate_zero false ◌||◌ _)
 
-module _ (rows : Rows) (x : ℕ) where
-  pub faults_none : record { range = false; bound = false } ≡ faults_below 0 rows x
-  faults_none = same_faults (sym (accumulate_zero false ◌||◌ _)) (sym (accumulate_zero false ◌||◌ _))
-
-  -- the faults so far and an entry, which are those of the rule
-  pub faults_more : (n : ℕ) (faults : Faults) (e : Entry) → faults ≡ faults_below n rows x → e ≡ rows n x
-      → record { range = faults.range || out_of_range e; bound = faults.bound || bound_too_large e } ≡ faults_below (n + 1) rows x
-  faults_more n faults e p q =
-      ap₂ (λ (f : Faults) (e : Entry). record { range = f.range || out_of_range e; bound = f.bound || bound_too_large e }) p q
-      ∙ same_faults (accumulate_next false ◌||◌ n (λ j. out_of_range (rows j x)))
-      (accumulate_next false ◌||◌ n (λ j. bound_too_large (rows j x)))
+  -- whether there was one so far, or the entry has it, which is that of the rule
+  pub fault_more : (n : ℕ) (found : Bool) (e : Entry) → found ≡ any_row fault n rows x → e ≡ rows n x
+      → (found || fault e) ≡ any_row fault (n + 1) rows x
+  fault_more n found e p q = ap₂ (λ (b : Bool) (e : Entry). b || fault e) p q
+      ∙ accumulate_next false ◌||◌ n (λ j. fault (rows j x))

@@ -1,6 +1,6 @@
 -- Total by total: below the total that is reached the rows hold the curve, and no entry there has a fault, so the next total can be
 -- computed; the run stops at the first fault or at the end, as the definition says.
-use mathlib.Core.Path.{◌≡◌, sym, ap, ◌∙◌, subst}
+use mathlib.Core.Path.{◌≡◌, sym, ap, ap₂, ◌∙◌, subst}
 use mathlib.Core.Bool.{Bool, true, false, ◌||◌}
 use mathlib.Core.List.{List}
 use mathlib.Core.Logic.{◌⊎◌, inl, inr}
@@ -11,6 +11,7 @@ use borrow.Author.Tests.{ltb-false, lt-ltb, le-ltb}
 use lib.Dec.{ltb}
 use lib.IntN.{ℤ, pos, negsuc, nat_abs}
 use lib.Signed.{lt_z, ◌≤ℤ◌}
+use Rattle.std.specs.Prelude.{Ok, Err}
 use Rattle.algebra.specs.Smallest.{FailBelow}
 use Rattle.algebra.specs.Sum.{accumulate}
 use Rattle.algebra.proofs.Smallest.{smallest_is, smallest_finds}
@@ -25,12 +26,11 @@ use Rattle.rows.specs.Layout.{Lent, LongEnough, stored}
 use Rattle.rows.specs.Faults.{any_row, fault_at, first_fault, range_fault}
 use Rattle.rows.specs.Limits.{Limits}
 use Rattle.rows.specs.Fits.{SumsFit}
-use Rattle.rows.specs.Progress.{Ready, faults_below, RowsKept, Advanced, Filled, stop_of}
+use Rattle.rows.specs.Progress.{RowsKept, Advanced, Filled, fault_by, fault_below, stop_by, stop_of}
 use Rattle.rows.proofs.Kept.{rows_untouched, rows_further, rows_step, long_kept}
-use Rattle.rows.proofs.Advanced.{same_faults}
 use Rattle.rows.proofs.Recursion.{curve_rule, entry_local}
 use Rattle.rows.proofs.Nonnegative.{bound_nonneg}
-use Rattle.rows.proofs.Sums.{sums_at_fit}
+use Rattle.rows.proofs.Sums.{ReadyIn, sums_at_fit}
 
 -- ---- tests over rows
 any_none : (n : ℕ) (f : ℕ → Bool) → accumulate false ◌||◌ n f ≡ false → (j : ℕ) → j < n → f j ≡ false
@@ -88,7 +88,7 @@ module _ (job : Job) (weights : List ℕ) (limits : Limits job weights) where
     pub first_here : first_fault job weights ≡ x
     first_here = first_is x (omega arith) below (λ _. fault)
 
-    pub stop_here : record { total = x; range = any_row out_of_range order curve x } ≡ stop_of job weights
+    pub stop_here : Err (stop_by (any_row out_of_range order curve x) x) ≡ stop_of job weights
     unfolding range_fault
     stop_here = rw (first_here, lt-ltb x places h)
 
@@ -97,8 +97,7 @@ module _ (job : Job) (weights : List ℕ) (limits : Limits job weights) where
     first_none : first_fault job weights ≡ places
     first_none = first_is places (NL.le_refl places) below (λ l. absurd (NL.lt_irrefl places l))
 
-    pub stop_end : record { total = places; range = false } ≡ stop_of job weights
-    unfolding range_fault
+    pub stop_end : Ok tt ≡ stop_of job weights
     stop_end = rw (first_none, le-ltb places places (NL.le_refl places))
 
   -- ---- total by total
@@ -110,7 +109,7 @@ module _ (job : Job) (weights : List ℕ) (limits : Limits job weights) where
   }
 
   module _ (lent₀ : Lent) (long : LongEnough places lent₀) (x : ℕ) (lent : Lent) (here : Reached job weights lent₀ x lent) where
-    pub reached_ready : x < places → Ready job.law weights places x lent
+    pub reached_ready : x < places → ReadyIn job.law weights places x lent
     reached_ready h = record {
       basis = record {
         law_limits = limits.law;
@@ -127,8 +126,8 @@ module _ (job : Job) (weights : List ℕ) (limits : Limits job weights) where
     pub rule_curve : (j : ℕ) → j < order → entry_at job weights (stored places lent) j x ≡ curve j x
     rule_curve j h = entry_local job weights (stored places lent) curve j x h here.entries ∙ sym (curve_rule job weights j x h)
 
-    pub faults_curve : faults_below order (entry_at job weights (stored places lent)) x ≡ faults_below order curve x
-    faults_curve = same_faults (accumulate_cong false ◌||◌ order (λ j l. ap out_of_range (rule_curve j l)))
+    pub fault_curve : fault_below order (entry_at job weights (stored places lent)) x ≡ fault_below order curve x
+    fault_curve = ap₂ fault_by (accumulate_cong false ◌||◌ order (λ j l. ap out_of_range (rule_curve j l)))
         (accumulate_cong false ◌||◌ order (λ j l. ap bound_too_large (rule_curve j l)))
 
     module _ (lent' : Lent) (step : Advanced job weights places x order lent lent') where

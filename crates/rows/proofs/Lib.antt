@@ -12,3 +12,5 @@ pub mod Known
 pub mod Advanced
 pub mod Filled
 pub mod MarkProgress
+pub mod RowByRow
+pub mod TotalByTotal

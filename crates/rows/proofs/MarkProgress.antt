@@ -16,34 +16,21 @@ use Rattle.enclosure.proofs.Exact.{mark_exact}
 use Rattle.rows.specs.Curve.{entry_at, curve_rows}
 use Rattle.rows.specs.Exact.{lows, highs, exact_at, curve_marks}
 use Rattle.rows.specs.Faults.{fault_at}
-use Rattle.rows.specs.Layout.{Lent, lent_rows, LongEnough, work_places, stored, placed, stored_lows, stored_highs}
+use Rattle.rows.specs.Layout.{Lent, lent_rows, LongEnough, work_places, stored, placed}
 use Rattle.rows.specs.Layout.{stored_numbers, stored_marks, mark_put, work_put, marks_at}
 use Rattle.rows.specs.Limits.{Limits}
-use Rattle.rows.specs.Progress.{Ready, Kept, Advanced, Readable, MarksAdvanced, MarksFilled, SettledRows, settled_after}
+use Rattle.rows.specs.Progress.{Kept, Advanced, MarksAdvanced, MarksFilled, SettledRows, settled_after}
 use Rattle.rows.proofs.Kept.{kept_set, kept_same, kept_further, kept_then}
 use Rattle.rows.proofs.MarkRule.{exact_local, mark_rule}
 use Rattle.rows.proofs.MarkStored.{marks_within, placed_marks, marked_stored, marked_other, marked_own}
 use Rattle.rows.proofs.Known.{settled_same, settled_next}
+use Rattle.rows.proofs.Sums.{ReadyIn}
 use Rattle.rows.proofs.Filled.{Reached, rule_curve, first_here, first_most}
 
 -- ---- at one total
-module _ (job : Job) (weights : List ℕ) (places x : ℕ) (lent₀ : Lent) (ready : Ready job.law weights places x lent₀) where
+module _ (job : Job) (weights : List ℕ) (places x : ℕ) (lent₀ : Lent) (ready : ReadyIn job.law weights places x lent₀) where
   row_most : {i : ℕ} → i < job.law.order → i ≤ 3
   row_most l = omega (arith, ready.basis.law_limits.order_most)
-
-  -- what the functions ask for that read marks
-  pub readable : (mark : List ℤ) → places ≤ length mark
-      → Readable weights places x lent₀.low lent₀.high mark lent₀.work
-  readable mark h = record {
-    table_limits = ready.basis.table_limits;
-    total_most = ready.basis.total_most;
-    places_most = ready.places_most;
-    total_below = ready.total_below;
-    low_long = ready.long.low_long;
-    high_long = ready.long.high_long;
-    mark_long = h;
-    work_long = ready.long.work_long;
-  }
 
   -- a mark leaves the entries as they are
   pub advanced_marked : (n : ℕ) → n ≤ job.law.order → (lent : Lent) → Advanced job weights places x n lent₀ lent
@@ -157,8 +144,8 @@ module _ (job : Job) (weights : List ℕ) (mark₀ : List ℤ) where
 
     -- what is known of the curve is known of the rows
     pub known_stored : (s : Settled) → CurveKnown job weights s x
-        → SettledRows s job.law.order x (stored_lows (job.last + 1) lent.low lent.work)
-        (stored_highs (job.last + 1) lent.high lent.work) (stored_marks (job.last + 1) mark lent.work)
+        → SettledRows s job.law.order x (lows (stored (job.last + 1) lent)) (highs (stored (job.last + 1) lent))
+        (stored_marks (job.last + 1) mark lent.work)
     known_stored s known = settled_same job.law.order x s _ _ _ _ _ _
         (λ j z h l. ap (λ (e : Entry). e.low) (reached.entries j z h l))
         (λ j z h l. ap (λ (e : Entry). e.high) (reached.entries j z h l))
@@ -192,7 +179,8 @@ module _ (job : Job) (weights : List ℕ) (mark₀ : List ℤ) where
         where
           by : (j z : ℕ) → j < job.law.order → (z ≡ x) ⊎ (z < x)
               → stored_numbers (job.last + 1) mark' work' j z ≡ mark_of (curve_marks job weights j z)
-          by j z h (inl p) = subst (λ (k : ℕ). stored_numbers (job.last + 1) mark' work' j k ≡ mark_of (curve_marks job weights j k)) (sym p)
+          by j z h (inl p) =
+              subst (λ (k : ℕ). stored_numbers (job.last + 1) mark' work' j k ≡ mark_of (curve_marks job weights j k)) (sym p)
               (step.marks j h ∙ ap mark_of (exact_curve j h))
           by j z h (inr l) = step.earlier j z h l ∙ here.marks j z h l
 

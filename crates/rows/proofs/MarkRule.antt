@@ -51,12 +51,12 @@ exact_is job weights rows marks j (suc x) = refl
 abbrev pub row_exact : (ℕ → Factor) → List ℕ → ℕ → (low high : Grid ℤ) → Marks → ℕ → Bool
 row_exact f weights x low high marks i = term_exact (line_factor (f i) weights) x weights (low i) (high i) (marks i)
 
-pub used_zero_lem : (law : Law) (weights : List ℕ) (x : ℕ) (a b : List ℤ) → a ≡ law.a → b ≡ law.b → (low high : Grid ℤ) (marks : Marks)
-    → all_of law.order (row_exact (term_factor a b x) weights x low high marks) ≡ used_zero law weights low high marks x
+pub used_zero_lem : (law : Law) (weights : List ℕ) (x : ℕ) (low high : Grid ℤ) (marks : Marks)
+    → all_of law.order (row_exact (term_factor law.a law.b x) weights x low high marks) ≡ used_zero law weights low high marks x
 unfolding used_zero
-used_zero_lem law weights x a b p q low high marks = rw (p, q) (accumulate_cong true ◌&&◌ law.order (λ i l.
+used_zero_lem law weights x low high marks = accumulate_cong true ◌&&◌ law.order (λ i l.
     accumulate_cong true ◌&&◌ (severities weights x) (λ y m.
-    ap₂ (λ (z : ℤ) (n : ℕ). keeps_exact z (low i (x - n)) (high i (x - n)) (marks i (x - n))) (factor_is law weights x i y) (add-one y))))
+    ap₂ (λ (z : ℤ) (n : ℕ). keeps_exact z (low i (x - n)) (high i (x - n)) (marks i (x - n))) (factor_is law weights x i y) (add-one y)))
 
 weight_is : (weights : List ℕ) (y : ℕ) → line_factor weight_alone weights y ≡ pos (get_or weights y 0)
 weight_is weights y = ap pos (omega arith)
@@ -68,14 +68,12 @@ used_next_lem weights x low high marks j = accumulate_cong true ◌&&◌ (severi
     ap₂ (λ (z : ℤ) (n : ℕ). keeps_exact z (low j (x - n)) (high j (x - n)) (marks j (x - n))) (weight_is weights y) (add-one y))
 
 -- the factors are small
-pub term_factor_small : (law : Law) → LawLimits law → (x : ℕ) → x ≤ most_last → (i : ℕ) → i < law.order
+pub term_factor_small : (law : Law) → LawLimits law → (x : ℕ) → x ≤ most_last → (i : ℕ) → i < most_order
     → FactorSmall (term_factor law.a law.b x i)
-term_factor_small law limits x h i l =
-    let most : i < most_order = omega (arith, limits.order_most) in
-    record {
-      constant_small = size_mul_le (get_or law.a i (pos 0)) (pos x) 1000 most_last (limits.a_small i most) h;
-      slope_small = limits.b_small i most;
-    }
+term_factor_small law limits x h i l = record {
+  constant_small = size_mul_le (get_or law.a i (pos 0)) (pos x) 1000 most_last (limits.a_small i l) h;
+  slope_small = limits.b_small i l;
+}
 
 -- ---- the rule reads nothing else
 same_keeps : (f : ℤ) {e e' : Entry} {m m' : Bool} → e ≡ e' → m ≡ m' → keeps_exact f e.low e.high m ≡ keeps_exact f e'.low e'.high m'

@@ -1,5 +1,5 @@
 -- The rule reads only the rows 0 to k - 1 at earlier totals, so that the rows made total by total follow it.
-use mathlib.Core.Path.{◌≡◌, refl, sym, ap, ap₂, ◌∙◌}
+use mathlib.Core.Path.{◌≡◌, refl, sym, ap, ◌∙◌}
 use mathlib.Core.Bool.{true}
 use mathlib.Core.List.{List}
 use Prim.Native.Nat.{ℕ, zero, suc, ◌-◌, ◌<◌}
@@ -24,21 +24,20 @@ module _ (job : Job) (weights : List ℕ) where
     unfolding entry_at
     entry_first e = ap (entry_at job weights rows j) e
 
-    pub entry_later : (x ≡ 0 → ⊥) → (k : ℕ) → j ≡ k
-        → entry_at job weights rows j x ≡ rounded (divisor_at job weights k x) (sums_at job.law weights rows k x)
+    pub entry_later : (x ≡ 0 → ⊥) → entry_at job weights rows j x ≡ rounded (divisor_at job weights j x) (sums_at job.law weights rows j x)
     unfolding entry_at
-    entry_later later k e = ap₂ (entry_at job weights rows) e (suc_pred x later)
-        ∙ ap (λ (n : ℕ). rounded (divisor_at job weights k n) (sums_at job.law weights rows k n)) (sym (suc_pred x later))
+    entry_later later = ap (entry_at job weights rows j) (suc_pred x later)
+        ∙ ap (λ (n : ℕ). rounded (divisor_at job weights j n) (sums_at job.law weights rows j n)) (sym (suc_pred x later))
 
     pub divides_first : x ≡ 0 → divides_at job weights rows j x ≡ true
     unfolding divides_at
     divides_first e = ap (divides_at job weights rows j) e
 
-    pub divides_later : (x ≡ 0 → ⊥) → (k : ℕ) → j ≡ k
-        → divides_at job weights rows j x ≡ divides_sums (divisor_at job weights k x) (sums_at job.law weights rows k x)
+    pub divides_later : (x ≡ 0 → ⊥)
+        → divides_at job weights rows j x ≡ divides_sums (divisor_at job weights j x) (sums_at job.law weights rows j x)
     unfolding divides_at
-    divides_later later k e = ap₂ (divides_at job weights rows) e (suc_pred x later)
-        ∙ ap (λ (n : ℕ). divides_sums (divisor_at job weights k n) (sums_at job.law weights rows k n)) (sym (suc_pred x later))
+    divides_later later = ap (divides_at job weights rows j) (suc_pred x later)
+        ∙ ap (λ (n : ℕ). divides_sums (divisor_at job weights j n) (sums_at job.law weights rows j n)) (sym (suc_pred x later))
 
   -- the sums read nothing else
   pub sums_local : (rows rows' : Rows) (j x : ℕ) → j < job.law.order → Agree job.law.order rows rows' (suc x)

@@ -10,8 +10,16 @@ use lib.Dec.{lit<, lit≤}
 use lib.IntN.{ℤ, pos}
 use lib.ListN.{length, get_or, take, drop, set, length-set}
 use lib.Seq.{get_or-take, get_or-drop, get_or-set_same, get_or-set_other}
+use Rattle.model.specs.Limits.{most_totals}
 use Rattle.enclosure.specs.declared.Entry.{Entry}
-use Rattle.rows.specs.Layout.{Lent, work_places, Reachable, column_at, column_of, stored, put_columns, placed}
+use Rattle.rows.specs.Layout.{Lent, LongEnough, work_places, column_at, column_of, stored, put_columns, placed}
+
+-- a row of the lent rows that a function may read or write at total x
+pub record Reachable (places x : ℕ) (lent : Lent) (j : ℕ) : Type 0 where
+  pub row_most : j ≤ 3
+  pub places_most : places ≤ most_totals
+  pub total_below : x < places
+  pub long : LongEnough places lent
 
 -- ---- columns
 -- column n of row j + 1 lies in the work row
@@ -50,7 +58,8 @@ module _ (places : ℕ) (work : List ℤ) (j x : ℕ) (e : Entry) (hx : x < plac
 
   -- a cell of another row or at another total
   cell_kept : (i n z : ℕ) → n < 3 → z < places → (i ≡ j → z ≡ x → ⊥)
-      → get_or (take places (drop (column_at places i n) after)) z (pos 0) ≡ get_or (take places (drop (column_at places i n) work)) z (pos 0)
+      → get_or (take places (drop (column_at places i n) after)) z (pos 0)
+      ≡ get_or (take places (drop (column_at places i n) work)) z (pos 0)
   cell_kept i n z hn hz apart =
       let k = column_at places i n + z in
       column_cell after places i n z hz

@@ -13,18 +13,54 @@ use mir.Val.{SFits}
 use Rattle.algebra.proofs.Sum.{accumulate_zero, accumulate_next, accumulate_from, accumulate_cong}
 use Rattle.algebra.proofs.Size.{size_mul_le, size_fits}
 use Rattle.model.specs.declared.Law.{Law}
-use Rattle.model.specs.Limits.{most_last}
+use Rattle.model.specs.declared.Job.{Job}
+use Rattle.model.specs.Limits.{most_last, most_totals}
 use Rattle.outward.specs.Division.{ceil_div}
 use Rattle.enclosure.specs.declared.Entry.{Entry}
 use Rattle.enclosure.specs.declared.term.Factor.{Factor}
 use Rattle.enclosure.specs.Entry.{none, plus, sum_of, scaled, EntryFits}
-use Rattle.enclosure.specs.Term.{TermRoom, line_factor, term_sums}
+use Rattle.enclosure.specs.Term.{Small, TermRoom, line_factor, term_sums}
 use Rattle.enclosure.proofs.Scaled.{plus_assoc, plus_none}
 use Rattle.enclosure.proofs.Sizes.{term_size, quotient_fits}
 use Rattle.rows.specs.Curve.{Rows, severities, factor, sums_zero, sums_next, sums_at}
-use Rattle.rows.specs.Layout.{Lent, Reachable}
-use Rattle.rows.specs.Progress.{Basis, Ready, term_factor, weight_alone}
+use Rattle.rows.specs.declared.layout.Rows.{Rows as LentRows}
+use Rattle.rows.specs.Layout.{Lent, LongEnough, stored}
+use Rattle.rows.specs.Lent.{held}
+use Rattle.rows.specs.Limits.{LawLimits, TableLimits, Limits}
+use Rattle.rows.specs.Progress.{Ready, term_factor, weight_alone}
+use Rattle.rows.proofs.Stored.{Reachable}
 
+-- ---- what a total is computed from
+-- law and table lie within the limits, and no entry at an earlier total has a fault
+pub record Basis (law : Law) (weights : List ℕ) (x : ℕ) (rows : Rows) : Type 0 where
+  pub law_limits : LawLimits law
+  pub table_limits : TableLimits weights
+  pub total_most : x ≤ most_last
+  pub earlier : (j z : ℕ) → j < law.order → z < x → Small (rows j z)
+
+-- the same of rows that the lent rows hold, and these have places for total x
+pub record ReadyIn (law : Law) (weights : List ℕ) (places x : ℕ) (lent : Lent) : Type 0 where
+  pub basis : Basis law weights x (stored places lent)
+  pub long : LongEnough places lent
+  pub places_most : places ≤ most_totals
+  pub total_below : x < places
+
+-- by the limits of the job and what the functions ask for
+pub ready_in : {job : Job} {weights : List ℕ} {x : ℕ} {lent : LentRows} → Limits job weights → Ready job.law.order x lent
+    → ReadyIn job.law weights lent.places x (held lent)
+ready_in limits ready = record {
+  basis = record {
+    law_limits = limits.law;
+    table_limits = limits.table;
+    total_most = omega arith;
+    earlier = ready.earlier;
+  };
+  long = ready.room.long;
+  places_most = ready.room.places_most;
+  total_below = ready.total_below;
+}
+
+-- ---- terms
 -- a further row is a term whose factor is the weight
 pub next_is : (weights : List ℕ) (x : ℕ) (rows : Rows) (j : ℕ)
     → term_sums none (line_factor weight_alone weights) x weights (rows j) ≡ sums_next weights rows j x
@@ -69,7 +105,7 @@ module _ (law : Law) (weights : List ℕ) (x : ℕ) where
       ap₂ (λ (z : ℤ) (n : ℕ). scaled z (rows i (x - n))) (factor_is i y) (add-one y)))
 
   -- a row of the lent rows, where the entries at total x are computed
-  pub reachable : (places : ℕ) (lent : Lent) → Ready law weights places x lent → (j : ℕ) → j < law.order → Reachable places x lent j
+  pub reachable : (places : ℕ) (lent : Lent) → ReadyIn law weights places x lent → (j : ℕ) → j < law.order → Reachable places x lent j
   reachable places lent ready j l = record {
     row_most = omega (arith, ready.basis.law_limits.order_most);
     places_most = ready.places_most;

@@ -1,7 +1,6 @@
 -- Where the rows lie: row 0 in the lent rows, a further row in columns of the work row, three for its entries and one for its marks.
-use Rattle.std.specs.Prelude.{Bool, List, ℕ, zero, suc, ◌+◌, ◌*◌, ◌≤◌, ◌<◌, ℤ, length, set, take, drop}
+use Rattle.std.specs.Prelude.{Bool, List, ℕ, zero, suc, ◌+◌, ◌*◌, ◌≤◌, ℤ, length, set, take, drop}
 use Rattle.algebra.specs.Tabled.{Grid}
-use Rattle.model.specs.Limits.{most_totals}
 use Rattle.model.specs.Mark.{mark_of, is_exact}
 use Rattle.enclosure.specs.declared.Entry.{Entry}
 use Rattle.enclosure.specs.Term.{entry_of}
@@ -51,13 +50,6 @@ abbrev pub stored : ℕ → Lent → Rows
 stored places lent j = entry_of (column_of places j 0 lent.low lent.work) (column_of places j 1 lent.high lent.work)
     (column_of places j 2 lent.bound lent.work)
 
--- their lows and their highs
-abbrev pub stored_lows : ℕ → List ℤ → List ℤ → Grid ℤ
-stored_lows places low work j = number_in (column_of places j 0 low work)
-
-abbrev pub stored_highs : ℕ → List ℤ → List ℤ → Grid ℤ
-stored_highs places high work j = number_in (column_of places j 1 high work)
-
 -- an entry put at total x of the columns of row j + 1
 abbrev pub put_columns : List ℤ → ℕ → ℕ → ℕ → Entry → List ℤ
 put_columns work places j x e =
@@ -101,10 +93,3 @@ mark_put mark (suc j) x exact = mark
 abbrev pub work_put : ℕ → List ℤ → ℕ → ℕ → Bool → List ℤ
 work_put places work zero x exact = work
 work_put places work (suc j) x exact = set work (marks_at places j + x) (mark_of exact)
-
--- a row of the lent rows that a function may read or write at total x
-pub record Reachable (places x : ℕ) (lent : Lent) (j : ℕ) : Type 0 where
-  pub row_most : j ≤ 3
-  pub places_most : places ≤ most_totals
-  pub total_below : x < places
-  pub long : LongEnough places lent

@@ -1,11 +1,10 @@
 -- What the functions that fill the rows ask for, and how far the lent rows are filled.
-use Rattle.std.specs.Prelude.{◌≡◌, Bool, cond, ◌&&◌, List, ℕ, ◌+◌, ◌≤◌, ◌<◌, ℤ, pos, ◌*ℤ◌, length, get_or, drop}
+use Rattle.std.specs.Prelude.{◌≡◌, Bool, true, false, cond, ◌&&◌, List, ℕ, ◌+◌, ◌<◌, ltb, ℤ, pos, ◌*ℤ◌, length, get_or, drop}
+use Rattle.std.specs.Prelude.{Option, Some, None, Result, Ok, Err, ⊤}
 use Rattle.algebra.specs.Sum.{all_of}
 use Rattle.algebra.specs.Table.{same_integer}
 use Rattle.algebra.specs.Tabled.{Grid}
 use Rattle.model.specs.declared.Job.{Job}
-use Rattle.model.specs.declared.Law.{Law}
-use Rattle.model.specs.Limits.{most_last, most_totals}
 use Rattle.model.specs.Weights.{all_weight}
 use Rattle.model.specs.Job.{job_divisor}
 use Rattle.model.specs.Mark.{mark_of}
@@ -15,14 +14,16 @@ use Rattle.enclosure.specs.declared.term.Factor.{Factor}
 use Rattle.enclosure.specs.Entry.{out_of_range, bound_too_large}
 use Rattle.enclosure.specs.Term.{Small}
 use Rattle.enclosure.specs.Known.{SettledRow}
-use Rattle.rows.specs.declared.fill.Faults.{Faults}
-use Rattle.rows.specs.declared.fill.Stop.{Stop}
+use Rattle.rows.specs.declared.layout.Rows.{Rows as LentRows}
 use Rattle.rows.specs.declared.total.Divisors.{Divisors}
+use Rattle.rows.specs.declared.fill.Fault.{Fault}
+use Rattle.rows.specs.declared.fill.Fault.TheVariants.{Range, Bound}
+use Rattle.rows.specs.declared.fill.Stop.{Stop}
 use Rattle.rows.specs.Curve.{Rows, entry_at, curve_rows}
 use Rattle.rows.specs.Faults.{any_row, first_fault, range_fault}
-use Rattle.rows.specs.Exact.{Marks, exact_at, curve_marks}
-use Rattle.rows.specs.Layout.{Lent, work_places, stored, stored_numbers, stored_marks, LongEnough}
-use Rattle.rows.specs.Limits.{LawLimits, TableLimits}
+use Rattle.rows.specs.Exact.{Marks, lows, highs, exact_at, curve_marks}
+use Rattle.rows.specs.Layout.{Lent, work_places, stored, stored_numbers, stored_marks}
+use Rattle.rows.specs.Lent.{entries_in, marks_in, EntryRoom}
 
 -- ---- the divisors
 abbrev pub divisors_of : Job → List ℕ → Divisors
@@ -37,24 +38,27 @@ term_factor a b x i = record { constant = get_or a i (pos 0) *ℤ pos x; slope =
 abbrev pub weight_alone : Factor
 weight_alone = record { constant = pos 1; slope = pos 0 }
 
--- what the entries at total x are computed from: law and table lie within the limits, and no entry at an earlier total has a fault
-pub record Basis (law : Law) (weights : List ℕ) (x : ℕ) (rows : Rows) : Type 0 where
-  pub law_limits : LawLimits law
-  pub table_limits : TableLimits weights
-  pub total_most : x ≤ most_last
-  pub earlier : (j z : ℕ) → j < law.order → z < x → Small (rows j z)
-
--- the same of rows that the lent rows hold, and these have places for total x
-pub record Ready (law : Law) (weights : List ℕ) (places x : ℕ) (lent : Lent) : Type 0 where
-  pub basis : Basis law weights x (stored places lent)
-  pub long : LongEnough places lent
-  pub places_most : places ≤ most_totals
-  pub total_below : x < places
+-- the lent rows have room for the entries of total x, and no entry at an earlier total has a fault
+pub record Ready (order x : ℕ) (lent : LentRows) : Type 0 where
+  pub room : EntryRoom lent
+  pub total_below : x < lent.places
+  pub earlier : (j z : ℕ) → j < order → z < x → Small (entries_in lent j z)
 
 -- ---- totals one after the other
--- the faults that the first n rows have at total x
-abbrev pub faults_below : ℕ → Rows → ℕ → Faults
-faults_below n rows x = record { range = any_row out_of_range n rows x; bound = any_row bound_too_large n rows x }
+-- what the faults of a total's rows come to: that of a low or high goes before that of a bound
+abbrev pub fault_by : (range bound : Bool) → Option Fault
+fault_by true bound = Some Range
+fault_by false true = Some Bound
+fault_by false false = None
+
+-- the fault of the first n rows at total x
+abbrev pub fault_below : ℕ → Rows → ℕ → Option Fault
+fault_below n rows x = fault_by (any_row out_of_range n rows x) (any_row bound_too_large n rows x)
+
+-- a total with a fault stops the run
+abbrev pub passed : {A : Type 0} → ℕ → Option Fault → A → Result A Stop
+passed x None known = Ok known
+passed x (Some fault) known = Err (record { fault = fault; total = x })
 
 -- a row whose places from n on keep what they held
 pub record Kept (n : ℕ) (row row₀ : List ℤ) : Type 0 where
@@ -82,22 +86,12 @@ pub record Filled (job : Job) (weights : List ℕ) (lent₀ lent : Lent) : Type 
       → stored (job.last + 1) lent j z ≡ curve_rows job weights j z
 
 -- ---- the marks, beside the entries
--- what the functions ask for that read marks and ends at the totals below x
-pub record Readable (weights : List ℕ) (places x : ℕ) (low high mark work : List ℤ) : Type 0 where
-  pub table_limits : TableLimits weights
-  pub total_most : x ≤ most_last
-  pub places_most : places ≤ most_totals
-  pub total_below : x < places
-  pub low_long : places ≤ length low
-  pub high_long : places ≤ length high
-  pub mark_long : places ≤ length mark
-  pub work_long : work_places places ≤ length work
-
 -- the marks after those of the rows below n were put at total x, by the rule for the entries `rows` and the marks at the start
 pub record MarksAdvanced (job : Job) (weights : List ℕ) (places x n : ℕ) (rows : Rows) (mark₀ work₀ mark work : List ℤ) : Type 0 where
   pub kept : Kept (x + 1) mark mark₀
   pub earlier : (j z : ℕ) → j < job.law.order → z < x → stored_numbers places mark work j z ≡ stored_numbers places mark₀ work₀ j z
-  pub marks : (j : ℕ) → j < n → stored_numbers places mark work j x ≡ mark_of (exact_at job weights rows (stored_marks places mark₀ work₀) j x)
+  pub marks : (j : ℕ) → j < n
+      → stored_numbers places mark work j x ≡ mark_of (exact_at job weights rows (stored_marks places mark₀ work₀) j x)
 
 -- the marks after the run of the totals
 pub record MarksFilled (job : Job) (weights : List ℕ) (mark₀ mark work : List ℤ) : Type 0 where
@@ -108,6 +102,10 @@ pub record MarksFilled (job : Job) (weights : List ℕ) (mark₀ mark work : Lis
 -- what is known of the rows 0 to k - 1 below total x, so that it is not looked at again
 pub record SettledRows (settled : Settled) (order x : ℕ) (low high : Grid ℤ) (marks : Marks) : Type 0 where
   pub row : (j : ℕ) → j < order → SettledRow settled x (low j) (high j) (marks j)
+
+-- of those that the lent rows hold
+abbrev pub SettledIn : Settled → ℕ → ℕ → LentRows → Type 0
+SettledIn settled order x lent = SettledRows settled order x (lows (entries_in lent)) (highs (entries_in lent)) (marks_in lent)
 
 -- what was known, as far as an entry at total x lets it stand
 abbrev pub settled_where : Settled → ℕ → (exact equal : Bool) → Settled
@@ -124,6 +122,17 @@ settled_by s x exact e = settled_where s x exact (exact_equal exact e)
 abbrev pub settled_after : ℕ → Settled → ℕ → Marks → Rows → Settled
 settled_after n s x exact rows = settled_where s x (all_of n (λ j. exact j x)) (all_of n (λ j. exact_equal (exact j x) (rows j x)))
 
--- where the run stops
-abbrev pub stop_of : Job → List ℕ → Stop
-stop_of job weights = record { total = first_fault job weights; range = range_fault job weights }
+-- what comes of total x in the lent rows: a fault, or what is known then
+abbrev pub total_answer : Job → List ℕ → LentRows → Settled → ℕ → Result Settled Stop
+total_answer job weights lent settled x =
+    let entries = entry_at job weights (entries_in lent) in
+    let exact = exact_at job weights (entries_in lent) (marks_in lent) in
+    passed x (fault_below job.law.order entries x) (settled_after job.law.order settled x exact entries)
+
+-- where the run stops, and by which fault
+abbrev pub stop_by : Bool → ℕ → Stop
+stop_by range x = record { fault = cond range Range Bound; total = x }
+
+abbrev pub stop_of : Job → List ℕ → Result ⊤ Stop
+stop_of job weights = cond (ltb (first_fault job weights) (job.last + 1))
+    (Err (stop_by (range_fault job weights) (first_fault job weights))) (Ok tt)

@@ -6,4 +6,4 @@
 mod exact; // exact.rt: which entries of one total are exact
 pub mod fill; // fill.rt: the rows, total by total
 pub mod layout; // layout.rt: where the rows lie
-pub mod total; // total.rt: the entries of one total
+pub mod total; // total.rt: what the totals are computed from, and the entries of one total

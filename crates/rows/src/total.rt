@@ -1,18 +1,20 @@
-// The entries of one total, from the rows at earlier totals.
+// What the totals are computed from, and the entries of one total, from the rows at earlier totals.
 
-ghost use Rattle.std.specs.Prelude.{◌≡◌, ◌*◌, ◌≤◌, ◌<◌, ◌^◌, pos, nat_abs, get_or};
+ghost use Rattle.std.specs.Prelude.{◌≡◌, ◌≤◌, ◌<◌, ◌^◌};
 ghost use Rattle.model.specs.Limits.{unit, most_order, most_last};
-ghost use Rattle.rows.specs.Curve.{first_entry, sums_zero, entry_at};
+ghost use Rattle.enclosure.specs.Run.{FactorSmall};
+ghost use Rattle.enclosure.specs.Term.{TermRoom, line_factor, term_sums};
+ghost use Rattle.rows.specs.Curve.{first_entry, divisor_at, sums_zero, sums_at, entry_at};
 ghost use Rattle.rows.specs.Exact.{divides_at};
-ghost use Rattle.rows.specs.Layout.{lent_rows, stored};
+ghost use Rattle.rows.specs.Lent.{entries_in, EntryRoom};
 ghost use Rattle.rows.specs.Limits.{Limits};
-ghost use Rattle.rows.specs.Progress.{divisors_of, term_factor, weight_alone, Ready};
+ghost use Rattle.rows.specs.Progress.{divisors_of, term_factor, Ready};
 
-use super::layout::add_row;
-use enclosure::rule::{divide_sums, none};
+use super::layout::Rows;
+use enclosure::pass::add_term;
 use enclosure::term::Factor;
 use enclosure::{Divided, Entry};
-use model::{Job, Law, Start};
+use model::{Job, Start};
 
 // The divisors of a job: that of row 0 at total 1, D W - A w(0), and that of the further rows, W.
 #[derive(Clone, Copy)]
@@ -21,62 +23,21 @@ pub struct Divisors {
     pub further: u64,
 }
 
+// A job within the limits, the row of its table, and its divisors.
+#[derive(Clone, Copy)]
+pub struct Recursion<'a> {
+    pub job: Job,
+    pub weights: &'a [u64],
+    pub divisors: Divisors,
+    ghost limits: { Limits job weights.now },
+    ghost divided: { divisors ≡ divisors_of job weights.now },
+}
+
 // The factor of a further row: w(y) alone.
-pub fn weight_alone() -> Factor
-    ensures { result ≡ weight_alone }
-{
-    Factor {
-        constant: 1,
-        slope: 0,
-    }
-}
-
-// The factor of term `i` + 1: A x + B y, times w(y).
-pub fn term_factor(a: &[i64; 4], b: &[i64; 4], x: usize, i: usize) -> Factor
-    requires { (i < most_order) × (x ≤ most_last) × (nat_abs (get_or a.now i (pos 0)) ≤ 1000) }
-    ensures { result ≡ term_factor a.now b.now x i }
-{
-    Factor {
-        constant: a[i] * x as i64,
-        slope: b[i],
-    }
-}
-
-// The sums of row 0, term by term; `a` and `b` are the law's A_1..A_4 and B_1..B_4, here and below.
-fn sums_zero<'rows>(
-    law: Law,
-    a: &[i64; 4],
-    b: &[i64; 4],
-    x: usize,
-    weights: &[u64],
-    low: &'rows [i64],
-    high: &'rows [i64],
-    bound: &'rows [i64],
-    work: &'rows [i64],
-    places: usize,
-) -> Entry
-    requires ready { Ready law weights.now places x (lent_rows low.now high.now bound.now work.now) }
-    requires terms { (a.now ≡ law.a) × (b.now ≡ law.b) }
-    ensures { result ≡ sums_zero law weights.now (stored places
-        (lent_rows low.now high.now bound.now work.now)) x }
-{
-    let order = law.order as usize;
-    let mut sums = none();
-    for i in 0..order {
-        let factor = term_factor(a, b, x, i);
-        sums = add_row(sums, factor, x, weights, low, high, bound, work, places, i);
-    }
-    sums
-}
-
-// The divisor of row 0 at total `x`, from that at total 1.
-fn divisor_zero(first: u64, x: usize) -> u64
-    requires { (first ≤ 2000000) × (x ≤ most_last) }
-    ensures divisor { result ≡ first * x }
-    ensures fits { result < 2 ^ 63 }
-{
-    first * x as u64
-}
+pub const WEIGHT_ALONE: Factor = Factor {
+    constant: 1,
+    slope: 0,
+};
 
 // The entry of row `row` at total 0.
 fn first_entry(start: Start, row: usize) -> Entry
@@ -92,51 +53,84 @@ fn first_entry(start: Start, row: usize) -> Entry
             bound: high - low,
         };
     }
-    none()
+    Entry::NONE
 }
 
-// The entry of row `row` at total `x`, and whether its sums were divided without remainder.
-pub fn entry_at<'rows>(
-    job: Job,
-    a: &[i64; 4],
-    b: &[i64; 4],
-    divisors: Divisors,
-    x: usize,
-    weights: &[u64],
-    low: &'rows [i64],
-    high: &'rows [i64],
-    bound: &'rows [i64],
-    work: &'rows [i64],
-    places: usize,
-    row: usize,
-) -> Divided
-    requires row { (row < job.law.order) × (divisors ≡ divisors_of job weights.now) × Limits job weights.now }
-    requires ready { Ready job.law weights.now places x (lent_rows low.now high.now bound.now work.now) }
-    requires terms { (a.now ≡ job.law.a) × (b.now ≡ job.law.b) }
-    ensures entry { result.entry ≡ entry_at job weights.now (stored places
-        (lent_rows low.now high.now bound.now work.now)) row x }
-    ensures exact { result.exact ≡ divides_at job weights.now (stored places
-        (lent_rows low.now high.now bound.now work.now)) row x }
-{
-    if x == 0 {
-        let entry = first_entry(job.start, row);
-        return Divided { entry, exact: true };
+// What is asked of the rows, `Ready`, is about total `x` and the totals before it, so it is no fact of `Rows`. Room for entries and room
+// for marks are asked for apart, since not every function needs both.
+impl Recursion<'_> {
+    // The factor of term `i` + 1: A x + B y, times w(y).
+    pub fn term_factor(&self, x: usize, i: usize) -> Factor
+        requires { (i < most_order) × (x ≤ most_last) }
+        ensures factor { result ≡ term_factor self.now.job.law.a self.now.job.law.b x i }
+        ensures small { FactorSmall result }
+    {
+        Factor {
+            constant: self.job.law.a[i] * x as i64,
+            slope: self.job.law.b[i],
+        }
     }
-    if row == 0 {
-        let sums = sums_zero(job.law, a, b, x, weights, low, high, bound, work, places);
-        return divide_sums(sums, divisor_zero(divisors.first, x));
+
+    // The divisor of row `row` at total `x`.
+    fn divisor(&self, row: usize, x: usize) -> u64
+        requires { (1 ≤ x) × (x ≤ most_last) }
+        ensures divisor { result ≡ divisor_at self.now.job self.now.weights.now row x }
+        ensures fits { (1 ≤ result) × (result < 2 ^ 63) }
+    {
+        if row == 0 {
+            self.divisors.first * x as u64
+        } else {
+            self.divisors.further
+        }
     }
-    let sums = add_row(
-        none(),
-        weight_alone(),
-        x,
-        weights,
-        low,
-        high,
-        bound,
-        work,
-        places,
-        row - 1,
-    );
-    divide_sums(sums, divisors.further)
+
+    // The sums with those of one term added, which reads row `row`. It is made part of its callers, as a pass is: else the curve call has
+    // 5 % more instructions at k = 4, m = X = 500. No two of its parameters go together in every call.
+    #[inline(always)]
+    fn add_row(&self, rows: &Rows<'_>, sums: Entry, factor: Factor, x: usize, row: usize) -> Entry
+        requires room { EntryRoom rows.now × (x < rows.now.places) × (row ≤ 3) }
+        requires term_room { TermRoom sums factor x self.now.weights.now (entries_in rows.now row) }
+        ensures { result ≡ term_sums sums (line_factor factor self.now.weights.now) x self.now.weights.now (entries_in rows.now row) }
+    {
+        add_term(sums, factor, x, self.weights, &rows.row(row))
+    }
+
+    // The sums of row 0, term by term.
+    fn sums_zero(&self, rows: &Rows<'_>, x: usize) -> Entry
+        requires { Ready self.now.job.law.order x rows.now }
+        ensures { result ≡ sums_zero self.now.job.law self.now.weights.now (entries_in rows.now) x }
+    {
+        let mut sums = Entry::NONE;
+        // By number, as term i + 1 reads row i.
+        for i in 0..self.job.law.order as usize {
+            sums = self.add_row(rows, sums, self.term_factor(x, i), x, i);
+        }
+        sums
+    }
+
+    // The sums of row `row`.
+    fn sums_at(&self, rows: &Rows<'_>, x: usize, row: usize) -> Entry
+        requires { Ready self.now.job.law.order x rows.now × (row < self.now.job.law.order) }
+        ensures { result ≡ sums_at self.now.job.law self.now.weights.now (entries_in rows.now) row x }
+    {
+        if row == 0 {
+            return self.sums_zero(rows, x);
+        }
+        self.add_row(rows, Entry::NONE, WEIGHT_ALONE, x, row - 1)
+    }
+
+    // The entry of row `row` at total `x`, and whether its sums were divided without remainder.
+    pub fn entry_at(&self, rows: &Rows<'_>, x: usize, row: usize) -> Divided
+        requires { Ready self.now.job.law.order x rows.now × (row < self.now.job.law.order) }
+        ensures entry { result.entry ≡ entry_at self.now.job self.now.weights.now (entries_in rows.now) row x }
+        ensures exact { result.exact ≡ divides_at self.now.job self.now.weights.now (entries_in rows.now) row x }
+    {
+        if x == 0 {
+            return Divided {
+                entry: first_entry(self.job.start, row),
+                exact: true,
+            };
+        }
+        self.sums_at(rows, x, row).divided(self.divisor(row, x))
+    }
 }

@@ -1,3 +1,2 @@
--- Proofs that the functions share: the definition's lines as the code meets them, and how many weights are told.
-pub mod Steps
-pub mod Counted
+-- Proofs that the functions share: what a line that is read tells.
+pub mod LineRead

@@ -1,2 +1,3 @@
 -- The sheet reader's call.
+pub mod Due
 pub mod Call

@@ -1,6 +1,6 @@
 -- What an acceptance says: no condition holds, the start is that of the definition, and its fractions and intervals are those that a step
 -- takes.
-use mathlib.Core.Path.{◌≡◌, ap}
+use mathlib.Core.Path.{◌≡◌, sym, ap}
 use mathlib.Core.Bool.{false}
 use mathlib.Core.List.{[]}
 use Prim.Native.Nat.{ℕ, ◌*◌, ◌-◌, ◌%◌, ◌≤◌, ◌<◌}
@@ -8,14 +8,18 @@ use native.Mathlib.Nat as NL
 use native.Mathlib.Omega.{arith}
 use borrow.Author.Tests.{leb-false}
 use lib.Dec.{ltb, lit≤}
+use lib.IntN.{pos}
 use Rattle.algebra.proofs.Or.{or_left}
+use Rattle.model.specs.declared.Start.{Start}
 use Rattle.model.specs.Answer.{Answer, accepted, first_refusal}
 use Rattle.model.specs.Limits.{unit}
 use Rattle.model.proofs.Answer.{none_holds}
 use Rattle.model.proofs.Tests.{within}
+use Rattle.outward.specs.declared.Interval.{Interval}
+use Rattle.outward.proofs.Division.{same_ends}
 use Rattle.start.specs.Step.{exactly, InUnit}
 use Rattle.start.specs.Room.{Proper}
-use Rattle.start.specs.Call.{series, exp_minus_one, wrong_lower, wrong_mean, mean_checks, trials_checks, started, of_mean, of_trials}
+use Rattle.start.specs.Call.{series, exp_minus_one, wrong_lower, wrong_mean, mean_checks, trials_checks, given, started, of_mean, of_trials}
 use Rattle.start.specs.Call.{start_of_mean, start_of_trials}
 use Rattle.start.proofs.Summed.{series_in_unit}
 
@@ -28,6 +32,11 @@ pub trials_is : (r s N : ℕ) {answer : Answer} → first_refusal (trials_checks
     → start_of_trials r s N ≡ started answer (of_trials r s N)
 unfolding start_of_trials
 trials_is r s N e = ap (λ (a : Answer). started a (of_trials r s N)) e
+
+-- what the code gives where nothing refuses
+pub given_is : {start : Start} {ends : Interval} → (ends.low ≡ pos start.low) × (ends.high ≡ pos start.high)
+    → given start ≡ started accepted ends
+given_is (low, high) = ap (started accepted) (same_ends (sym low) (sym high))
 
 -- ---- a mean that passes 41
 pub record Rest (r s : ℕ) : Type 0 where

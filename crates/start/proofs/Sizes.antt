@@ -3,11 +3,10 @@ use mathlib.Core.Path.{◌≡◌}
 use Prim.Native.Nat.{◌≤◌}
 use native.Mathlib.Omega.{arith}
 use lib.IntN.{ℤ, pos, negsuc, nat_abs, ◌+ℤ◌, ◌-ℤ◌, ◌*ℤ◌}
-use lib.Dec.{T}
-use lib.Signed.{◌≤ℤ◌, non_neg, yes_non_neg}
+use lib.Signed.{◌≤ℤ◌}
 use mir.Syntax.{w64}
-use mir.Val.{Fits, SFits, to_z}
-use mir.Facts.{to_z_pos, Fits-of_lt}
+use mir.Val.{SFits, to_z}
+use mir.Facts.{to_z_pos}
 use Rattle.algebra.proofs.Integer.{≤ℤ-trans, of_pos}
 use Rattle.algebra.proofs.Size.{size_add, size_sub, size_mul_le, size_fits}
 use Rattle.model.specs.Limits.{unit}
@@ -31,24 +30,16 @@ in_unit_sizes ends u = record {
   high_size = size_of ends.high (≤ℤ-trans u.nonneg u.in_order) u.at_most;
 }
 
--- ---- ends that are read as numbers without a sign
+-- ---- ends
 pub record Ends (ends : Interval) : Type 0 where
   pub low_fits : SFits w64 ends.low
   pub high_fits : SFits w64 ends.high
-  pub low_nonneg : T (non_neg ends.low)
-  pub high_nonneg : T (non_neg ends.high)
-  pub low_room : Fits w64 (nat_abs ends.low)
-  pub high_room : Fits w64 (nat_abs ends.high)
 
 pub ends_of : (ends : Interval) → InUnit ends → Ends ends
 ends_of ends u =
     let s = in_unit_sizes ends u in record {
       low_fits = size_fits w64 _ (omega arith);
       high_fits = size_fits w64 _ (omega arith);
-      low_nonneg = yes_non_neg u.nonneg;
-      high_nonneg = yes_non_neg (≤ℤ-trans u.nonneg u.in_order);
-      low_room = Fits-of_lt (omega arith);
-      high_room = Fits-of_lt (omega arith);
     }
 
 -- ---- a step's products
@@ -78,9 +69,9 @@ pub record Parts (term sum : Interval) : Type 0 where
   pub low_high : SFits w64 (sum.low -ℤ term.high)
   pub high_low : SFits w64 (sum.high -ℤ term.low)
 
-pub parts : (term sum : Interval) → SumRoom term sum → Parts term sum
-parts term sum r =
-    let s = in_unit_sizes term r.in_unit in record {
+pub parts : (term sum : Interval) → InUnit term → SumRoom sum → Parts term sum
+parts term sum u r =
+    let s = in_unit_sizes term u in record {
       term_low = size_fits w64 _ (omega arith);
       term_high = size_fits w64 _ (omega arith);
       sum_low = size_fits w64 _ (omega arith);

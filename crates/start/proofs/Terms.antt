@@ -104,10 +104,9 @@ module _ (q s : ℕ) (qs : q < s) (s_most : s ≤ 1000) where
     NL.mul-le-mul_right unit h,
   )
 
-  pub sum_room : (j : ℕ) → j ≤ 13 → SumRoom (term q s j) (sum_of_terms q s j)
+  pub sum_room : (j : ℕ) → j ≤ 13 → SumRoom (sum_of_terms q s j)
   unfolding sum_of_terms
   sum_room j h = record {
-    in_unit = term_in_unit j h;
     low_size = sum_size j h (low_part q s) (λ i l. (part_size i l).0);
     high_size = sum_size j h (high_part q s) (λ i l. (part_size i l).1);
   }

@@ -1,5 +1,5 @@
 -- Wish 1: "From a mean r/s, or from a chance r/s with a number of trials, r from 0 up, give the start."
-use Rattle.std.specs.Prelude.{Bool, ◌||◌, cond, List, [], ◌∷◌, ℕ, zero, suc, ◌-◌, ◌*◌, ◌/◌, ◌%◌, leb, ltb, ℤ, pos, neg_ℤ}
+use Rattle.std.specs.Prelude.{Bool, ◌||◌, cond, List, [], ◌∷◌, ℕ, zero, suc, ◌-◌, ◌*◌, ◌/◌, ◌%◌, leb, ltb, ℤ, pos, neg_ℤ, Result, Ok, Err}
 use Rattle.algebra.specs.Alternating.{is_even}
 use Rattle.algebra.specs.Sum.{sumℤ}
 use Rattle.model.specs.declared.Start.{Start}
@@ -9,8 +9,6 @@ use Rattle.outward.specs.declared.Interval.{Interval}
 use Rattle.start.specs.declared.scale.Factor.{Factor}
 use Rattle.start.specs.declared.Reason.{Reason}
 use Rattle.start.specs.declared.Reason.TheVariants.{Fraction, Chance, Trials}
-use Rattle.start.specs.declared.StartAnswer.{StartAnswer}
-use Rattle.start.specs.declared.StartAnswer.TheVariants.{Given, Refused}
 use Rattle.start.specs.Step.{certain, exactly, times, repeated}
 
 -- ---- the answer
@@ -32,9 +30,9 @@ abbrev pub given : Start → Started
 given start = record { answer = accepted; ends = record { low = pos start.low; high = pos start.high } }
 
 -- what the paper says for each answer of the code
-abbrev pub paper : StartAnswer → Started
-paper (Given start) = given start
-paper (Refused reason) = record { answer = refused (number_of reason) 0; ends = nothing }
+abbrev pub paper : Result Start Reason → Started
+paper (Ok start) = given start
+paper (Err reason) = record { answer = refused (number_of reason) 0; ends = nothing }
 
 -- ---- "For a mean, split r/s into its whole part v and a rest q/s."
 -- "the next is the last times q, over (s times its index j), rounded down and up"

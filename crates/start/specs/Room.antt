@@ -5,7 +5,6 @@ use Rattle.algebra.specs.Sum.{sumℤ}
 use Rattle.model.specs.Limits.{unit}
 use Rattle.outward.specs.declared.Interval.{Interval}
 use Rattle.start.specs.declared.scale.Factor.{Factor}
-use Rattle.start.specs.Step.{InUnit}
 use Rattle.start.specs.Call.{low_part, high_part}
 
 -- a fraction of at most 1
@@ -25,7 +24,6 @@ plus_part j term sum = cond (is_even j)
 unfoldable pub sum_of_terms : (q s n : ℕ) → Interval
 sum_of_terms q s n = record { low = sumℤ n (low_part q s); high = sumℤ n (high_part q s) }
 
-pub record SumRoom (term sum : Interval) : Type 0 where
-  pub in_unit : InUnit term
+pub record SumRoom (sum : Interval) : Type 0 where
   pub low_size : nat_abs sum.low ≤ 13 * unit
   pub high_size : nat_abs sum.high ≤ 13 * unit

@@ -3,50 +3,41 @@
 
 #![tactic(auto)]
 
-mod scale; // an interval times a fraction
+mod scale; // an interval of units times a fraction
 mod series; // the exponential series
 
 ghost use Rattle.std.specs.Prelude.{◌≡◌};
-ghost use Rattle.model.specs.Answer.{accepted};
-ghost use Rattle.start.specs.Step.{InUnit};
-ghost use Rattle.start.specs.Call.{number_of, paper, started, wrong_lower, wrong_mean, start_of_mean, start_of_trials};
+ghost use Rattle.start.specs.Call.{number_of, paper, wrong_lower, wrong_mean, start_of_mean, start_of_trials};
 
 use model::Start;
 use model::limits::{UNIT, is_outside};
-use outward::Interval;
-use scale::Factor;
+use model::refusal::Numbered;
+use scale::{Factor, Units};
+use series::Rest;
 
 // e to the -1 in units, rounded down and up.
-const EXP_MINUS_ONE_LOW: u64 = 367_879_441;
+const EXP_MINUS_ONE: Factor = Factor {
+    low: 367_879_441,
+    high: 367_879_442,
+    divisor: UNIT as u64,
+};
 
-const EXP_MINUS_ONE_HIGH: u64 = 367_879_442;
-
-// Why a call refuses.
-#[derive(Clone, Copy)]
+// Why a call refuses, and the paper's number of it.
+#[derive(Clone, Copy, Debug, PartialEq, Eq)]
 pub enum Reason {
-    // 41: a lower number that is not 1 to 1,000, or a mean above 20.
-    Fraction,
-    // 42: a chance of 1 or more.
-    Chance,
-    // 43: a number of trials that is not 1 to 1,000.
-    Trials,
+    // A lower number that is not 1 to 1,000, or a mean above 20.
+    Fraction = 41,
+    // A chance of 1 or more.
+    Chance = 42,
+    // A number of trials that is not 1 to 1,000.
+    Trials = 43,
 }
 
-#[derive(Clone, Copy)]
-pub enum StartAnswer {
-    Given(Start),
-    // The place of each reason is 0.
-    Refused(Reason),
-}
+impl Numbered for Reason {
+    ghost number_of = { number_of };
 
-// The paper's number of a reason.
-pub fn reason_number(reason: Reason) -> u64
-    ensures { result ≡ number_of reason }
-{
-    match reason {
-        Reason::Fraction => 41,
-        Reason::Chance => 42,
-        Reason::Trials => 43,
+    fn number(self) -> u64 {
+        self as u64
     }
 }
 
@@ -62,51 +53,36 @@ fn is_wrong_mean(upper: u64, lower: u64) -> bool
     is_wrong_lower(lower) || 20 * lower < upper
 }
 
-// The start from the low to the high of an interval.
-fn start_from(ends: Interval) -> StartAnswer
-    requires { InUnit ends }
-    ensures { paper result ≡ started accepted ends }
-{
-    StartAnswer::Given(Start {
-        low: ends.low as u64,
-        high: ends.high as u64,
-    })
-}
-
 // The start of a law of mean `upper` over `lower`: the series of the rest, then a factor for each whole.
-pub fn mean(upper: u64, lower: u64) -> StartAnswer
+pub fn mean(upper: u64, lower: u64) -> Result<Start, Reason>
     ensures { paper result ≡ start_of_mean upper lower }
 {
     if is_wrong_mean(upper, lower) {
-        return StartAnswer::Refused(Reason::Fraction);
+        return Err(Reason::Fraction);
     }
-    let rest = series::partial_sums(upper % lower, lower);
-    let exp_minus_one = Factor {
-        low: EXP_MINUS_ONE_LOW,
-        high: EXP_MINUS_ONE_HIGH,
-        divisor: UNIT as u64,
+    let rest = Rest {
+        upper: upper % lower,
+        lower,
     };
-    start_from(scale::repeated(exp_minus_one, upper / lower, rest))
+    let units = rest.partial_sums().repeated(EXP_MINUS_ONE, upper / lower);
+    Ok(units.into())
 }
 
 // The start of a binomial law of `trials` trials, each of chance `upper` over `lower`. A negative binomial law of whole shape has the same,
 // with its shape for the trials.
-pub fn trials(upper: u64, lower: u64, trials: u64) -> StartAnswer
+pub fn trials(upper: u64, lower: u64, trials: u64) -> Result<Start, Reason>
     ensures { paper result ≡ start_of_trials upper lower trials }
 {
     if is_wrong_lower(lower) {
-        return StartAnswer::Refused(Reason::Fraction);
+        return Err(Reason::Fraction);
     }
     if lower <= upper {
-        return StartAnswer::Refused(Reason::Chance);
+        return Err(Reason::Chance);
     }
     if is_outside(1, 1000, trials) {
-        return StartAnswer::Refused(Reason::Trials);
+        return Err(Reason::Trials);
     }
-    let no_claim = Factor {
-        low: lower - upper,
-        high: lower - upper,
-        divisor: lower,
-    };
-    start_from(scale::repeated(no_claim, trials, scale::certain()))
+    let no_claim = Factor::exactly(lower - upper, lower);
+    let units = Units::CERTAIN.repeated(no_claim, trials);
+    Ok(units.into())
 }

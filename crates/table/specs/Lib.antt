@@ -1,2 +1,3 @@
 -- The lines of the program's text.
 pub mod Lines
+pub mod Rows

@@ -1,7 +1,7 @@
 -- The program's lines: "It writes the line below in capitals, then one line for each total: total, low, high, bound.", and "Y or N as a
 -- fifth column headed EXACT". "On refusal it writes one line only: `REFUSED`, the number and the place or line. Single spaces stand between
 -- words, and every line has a line end."
-use Rattle.std.specs.Prelude.{cond, List, [], ◌∷◌, ◌++◌, map, ℕ, zero, suc, ℤ, pos, get_or}
+use Rattle.std.specs.Prelude.{cond, List, [], ◌∷◌, ◌++◌, map, ℕ, zero, suc, ◌≤◌, ℤ, pos, length, get_or}
 use Rattle.model.specs.Answer.{Answer}
 use Rattle.model.specs.Mark.{is_exact}
 use Rattle.text.specs.Bytes.{ascii, space, line_end}
@@ -34,6 +34,13 @@ at row x = get_or row x (pos 0)
 unfoldable pub total_lines : ℕ → (low high bound mark : List ℤ) → List ℕ
 total_lines zero low high bound mark = []
 total_lines (suc x) low high bound mark = total_lines x low high bound mark ++ total_line x (at low x) (at high x) (at bound x) (at mark x)
+
+-- each row has a place for each of the first totals
+pub record LongEnough (totals : ℕ) (low high bound mark : List ℤ) : Type 0 where
+  pub lows : totals ≤ length low
+  pub highs : totals ≤ length high
+  pub bounds : totals ≤ length bound
+  pub marks : totals ≤ length mark
 
 abbrev pub table_text : ℕ → (low high bound mark : List ℤ) → List ℕ
 table_text totals low high bound mark = ascii "TOTAL LOW HIGH BOUND EXACT\n" ++ total_lines totals low high bound mark

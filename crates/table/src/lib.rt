@@ -2,12 +2,13 @@
 
 #![tactic(auto)]
 
-ghost use Rattle.std.specs.Prelude.{◌≡◌, ◌≤◌, length};
+ghost use Rattle.std.specs.Prelude.{◌≡◌, ◌<◌};
 ghost use Rattle.model.specs.Answer.{refused};
-ghost use Rattle.output.specs.Output.{output, Puts};
-ghost use Rattle.table.specs.Lines.{exact_letter, total_line, table_text, refusal_line};
+ghost use Rattle.output.specs.Output.{Puts};
+ghost use Rattle.table.specs.Lines.{LongEnough, exact_letter, refusal_line};
 
-use output::{put_byte, put_bytes, put_digits, put_next};
+use model::refusal::{Numbered, Refusal};
+use output::Output;
 
 // Y for an exact entry, by its mark, and N otherwise.
 fn letter(mark: i64) -> u8
@@ -16,63 +17,50 @@ fn letter(mark: i64) -> u8
     if 0 < mark { b'Y' } else { b'N' }
 }
 
-fn put_total(
-    out: &mut [u8],
-    at: usize,
-    total: usize,
-    low: i64,
-    high: i64,
-    bound: i64,
-    mark: i64,
-) -> usize
-    ensures { Puts (total_line total low high bound mark) (output out.old at) (output out.new result) }
-{
-    let at = put_digits(out, at, total as u64);
-    let at = put_next(out, at, low);
-    let at = put_next(out, at, high);
-    let at = put_next(out, at, bound);
-    let at = put_byte(out, at, b' ');
-    let at = put_byte(out, at, letter(mark));
-    put_byte(out, at, b'\n')
+// The first totals of the four rows of a curve, which may be longer.
+#[derive(Clone, Copy)]
+pub struct Table<'a> {
+    pub totals: usize,
+    pub low: &'a [i64],
+    pub high: &'a [i64],
+    pub bound: &'a [i64],
+    pub mark: &'a [i64],
+    ghost long_enough: { LongEnough totals low.now high.now bound.now mark.now },
 }
 
-// The heading, and a line for each of the first totals of the four rows.
-pub fn put_table(
-    out: &mut [u8],
-    totals: usize,
-    low: &[i64],
-    high: &[i64],
-    bound: &[i64],
-    mark: &[i64],
-) -> usize
-    requires lows { totals ≤ length low.now }
-    requires highs { totals ≤ length high.now }
-    requires bounds { totals ≤ length bound.now }
-    requires marks { totals ≤ length mark.now }
-    ensures { Puts (table_text totals low.now high.now bound.now mark.now)
-        (output out.old 0) (output out.new result) }
-{
-    let mut at = put_bytes(out, 0, b"TOTAL LOW HIGH BOUND EXACT\n");
-    for total in 0..totals {
-        at = put_total(
-            out,
-            at,
-            total,
-            low[total],
-            high[total],
-            bound[total],
-            mark[total],
-        );
+impl Table<'_> {
+    ghost use Rattle.table.specs.Rows.{line_at, text_of};
+
+    fn put_total(&self, out: &mut Output, total: usize)
+        requires { total < self.now.totals }
+        ensures { Puts (line_at self.now total) out.old out.new }
+    {
+        out.put_number(total);
+        out.put_next(self.low[total]);
+        out.put_next(self.high[total]);
+        out.put_next(self.bound[total]);
+        out.put_byte(b' ');
+        out.put_byte(letter(self.mark[total]));
+        out.put_byte(b'\n');
     }
-    at
+
+    // The heading, and a line for each total. Four rows zipped would be a tuple in a tuple in a tuple, and no plainer.
+    pub fn put(&self, out: &mut Output)
+        ensures { Puts (text_of self.now) out.old out.new }
+    {
+        out.put_bytes(b"TOTAL LOW HIGH BOUND EXACT\n");
+        for total in 0..self.totals {
+            self.put_total(out, total);
+        }
+    }
 }
 
-pub fn put_refusal(out: &mut [u8], number: u64, place: usize) -> usize
-    ensures { Puts (refusal_line (refused number place)) (output out.old 0) (output out.new result) }
+pub fn put_refusal<R: Numbered>(out: &mut Output, refusal: Refusal<R>)
+    ensures { Puts (refusal_line (refused (R.number_of refusal.reason) refusal.place))
+        out.old out.new }
 {
-    let at = put_bytes(out, 0, b"REFUSED ");
-    let at = put_digits(out, at, number);
-    let at = put_byte(out, at, b' ');
-    let at = put_digits(out, at, place as u64);
-    put_byte(out, at, b'\n')
+    out.put_bytes(b"REFUSED ");
+    out.put_number(refusal.number());
+    out.put_next(refusal.place);
+    out.put_byte(b'\n');
 }

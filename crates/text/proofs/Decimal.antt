@@ -32,7 +32,7 @@ by_size P steps n one more = by (ltb n 10) refl
     by false t = more (ltb-false n 10 t)
 
 -- ---- what is written reads back
-value_append : (n : ℕ) (s t : List ℕ) → value_from n (s ++ t) ≡ value_from (value_from n s) t
+pub value_append : (n : ℕ) (s t : List ℕ) → value_from n (s ++ t) ≡ value_from (value_from n s) t
 unfolding value_from
 value_append n [] t = refl
 value_append n (b ∷ s) t = value_append (n * 10 + (b - zero_digit)) s t
@@ -199,11 +199,11 @@ value_below n (b ∷ w) e =
     let most : suc next ≤ suc n * 10 = omega (arith, digit_range b t.0) in
     rw (NL.pow-suc 10 (length w)) (omega (arith, value_below next w t.1, NL.mul-le-mul_right (10 ^ length w) most))
 
-pub digits_below : (w : List ℕ) → every is_digit w ≡ true → length w ≤ 10 → value w < 10 ^ 10
-digits_below w e h = omega (arith, value_below 0 w e, NL.pow-le-pow_right {n = 10} (omega arith) h)
+pub value_small : (k : ℕ) (w : List ℕ) → every is_digit w ≡ true → length w ≤ k → value w < 10 ^ k
+value_small k w e h = omega (arith, value_below 0 w e, NL.pow-le-pow_right {n = 10} (omega arith) h)
 
 pub numeral_below : (w : List ℕ) → is_numeral w ≡ true → value w < 10 ^ 10
-numeral_below w e = let t = numeral_tests w e in digits_below w t.3 (leb-true (length w) 10 t.1)
+numeral_below w e = let t = numeral_tests w e in value_small 10 w t.3 (leb-true (length w) 10 t.1)
 
 -- what a word is that is a number
 negative_said : (w : List ℕ) (z : ℤ) → starts_with minus w ≡ true → negative_of (drop 1 w) ≡ some z → IsDecimal true w z

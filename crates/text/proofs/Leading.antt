@@ -5,55 +5,25 @@ use mathlib.Core.Bool.{Bool, true, false, cond, true≢false, and-eq-true_iff}
 use mathlib.Core.List.{List, [], ◌∷◌, ◌++◌}
 use mathlib.Core.Option.{none, some}
 use Prim.Native.Nat.{ℕ, zero, suc, ◌+◌, ◌-◌, ◌*◌, ◌^◌, ◌≤◌, ◌<◌}
-use native.Mathlib.Nat.{add-zero}
+use native.Mathlib.Numerals.{add-one}
 use native.Mathlib.Omega.{arith}
-use borrow.Author.Tests.{eqb-true, ne_eqb, leb-true, ltb-true, ltb-false}
-use lib.Dec.{eqb, ltb}
+use borrow.Author.Tests.{eqb-true, ne_eqb, leb-true}
+use lib.Dec.{eqb}
 use lib.IntN.{pos}
-use lib.ListN.{length, take, drop, get_or, drop_of_length-le}
-use lib.Seq.{take_all, length-take-le, split_at, get_or_at}
+use lib.ListN.{length, take, drop, get_or, take-append-drop}
+use lib.Seq.{take_all, take-suc, split_at, drop_at}
+use Rattle.std.specs.List.{prefix_len}
+use Rattle.std.proofs.lemmas.List.{length-take}
+use Rattle.std.proofs.lemmas.List.Sums.{take_while-cons}
 use Rattle.algebra.specs.Table.{every}
-use Rattle.algebra.proofs.Slice.{drop_next}
 use Rattle.text.specs.Bytes.{line_end}
 use Rattle.text.specs.Lines.{before, after, has}
-use Rattle.text.specs.Numbers.{zero_digit, is_digit, is_numeral, value_from, value, number}
+use Rattle.text.specs.Numbers.{zero_digit, is_digit, starts_with, is_numeral, value_from, value, number}
 use Rattle.text.specs.declared.numbers.Digits.{Digits}
-use Rattle.text.specs.Leading.{leading_digits, digits_of, with_place, number_line}
-use Rattle.text.proofs.Scan.{one_fewer, has_before}
+use Rattle.text.specs.Leading.{leading_digits, digits_of, with_rest, number_line}
 use Rattle.text.proofs.Words.{split_at_first, first_after}
-use Rattle.text.proofs.Decimal.{digits_below}
-use Rattle.text.proofs.Read.{numeral_tests, number_numeral, number_other}
-
--- ---- a loop that may pass n digits
--- i that are passed, which stand for v, and those left
-abbrev pub passed_and_left : ℕ → List ℕ → ℕ → ℕ → Digits
-passed_and_left n s i v = let left = leading_digits (n - i) (drop i s) in record { count = i + length left; value = value_from v left }
-
-module _ (n : ℕ) (s : List ℕ) (i v : ℕ) where
-  -- there is one more
-  pub passed_next : i < n → i < length s → is_digit (get_or s i 0) ≡ true
-      → passed_and_left n s i v ≡ passed_and_left n s (i + 1) (v * 10 + (get_or s i 0 - zero_digit))
-  unfolding leading_digits value_from
-  passed_next h k e = rw (one_fewer n i h, drop_next s i 0 k, e) (λ j. record { count = one_passed j; value = value_from next others })
-    where
-      next : ℕ
-      next = v * 10 + (get_or s i 0 - zero_digit)
-
-      others : List ℕ
-      others = leading_digits (n - (i + 1)) (drop (i + 1) s)
-
-      one_passed : i + suc (length others) ≡ i + 1 + length others
-      one_passed = omega arith
-
-  -- there is none: n are there, the text ends, or the byte is no digit
-  pub none_left : (i < n → i < length s → is_digit (get_or s i 0) ≡ false) → passed_and_left n s i v ≡ record { count = i; value = v }
-  unfolding leading_digits value_from
-  none_left stop = rw (by (n - i) refl (ltb i (length s)) refl, add-zero)
-    where
-      by : (k : ℕ) → n - i ≡ k → (t : Bool) → ltb i (length s) ≡ t → leading_digits k (drop i s) ≡ []
-      by zero e t f = refl
-      by (suc k) e true f = let h = ltb-true i (length s) f in rw (drop_next s i 0 h, stop (omega arith) h)
-      by (suc k) e false f = rw (drop_of_length-le s {i = i} (ltb-false i (length s) f))
+use Rattle.text.proofs.Decimal.{value_small, value_append}
+use Rattle.text.proofs.Read.{starts_split, numeral_tests, number_numeral, number_other}
 
 -- ---- what they are
 -- digits, n of them at most, and the front of the text
@@ -71,6 +41,48 @@ leads (suc n) (b ∷ s) = by (is_digit b) refl (leads n s)
     by : (t : Bool) → is_digit b ≡ t → Leads n s (leading_digits n s) → Leads (suc n) (b ∷ s) (cond t (b ∷ leading_digits n s) [])
     by true e l = record { are = rw (e, l.are); few = omega (arith, l.few); front = ap (λ (d : List ℕ). b ∷ d) l.front }
     by false e l = record { are = refl; few = omega arith; front = refl }
+
+-- they are what `take_while` gives of the first n bytes
+pub leading_taken : (n : ℕ) (s : List ℕ) → take (prefix_len is_digit (take n s)) (take n s) ≡ leading_digits n s
+unfolding leading_digits
+leading_taken zero s = refl
+leading_taken (suc n) [] = refl
+leading_taken (suc n) (b ∷ s) =
+    take_while-cons is_digit b (take n s) ∙ ap (λ (d : List ℕ). cond (is_digit b) (b ∷ d) []) (leading_taken n s)
+
+-- what passes in a whole passes in its first part and at the next element
+every_first : (test : ℕ → Bool) (w : List ℕ) (b : ℕ) (t : List ℕ) → every test (w ++ (b ∷ t)) ≡ true
+    → (every test w ≡ true) × (test b ≡ true)
+every_first test [] b t e = (refl, ((and-eq-true_iff (test b) (every test t)).0 e).0)
+every_first test (x ∷ w) b t e =
+    let both = (and-eq-true_iff (test x) (every test (w ++ (b ∷ t)))).0 e in
+    let later = every_first test w b t both.1 in
+    (rw (both.0, later.0) refl, later.1)
+
+-- the digit b after the first of them, w: those are 9 at most
+pub record NextDigit (s w : List ℕ) (b : ℕ) : Type 0 where
+  pub is : is_digit b ≡ true
+  pub few : length w < 10
+  pub small : value w < 10 ^ 9
+  pub front : w ++ (b ∷ []) ≡ take (length w + 1) (leading_digits 10 s)
+  pub stands : value (w ++ (b ∷ [])) ≡ value w * 10 + (b - zero_digit)
+
+pub next_digit : (s w : List ℕ) (b : ℕ) → w ≡ take (length w) (leading_digits 10 s) → length w < length (leading_digits 10 s)
+    → b ≡ get_or (leading_digits 10 s) (length w) b → NextDigit s w b
+unfolding value_from
+next_digit s w b front more at =
+    let d = leading_digits 10 s in
+    let found = leads 10 s in
+    let whole = split_at d (length w) b more in
+    let split : d ≡ w ++ (b ∷ drop (suc (length w)) d) = whole ∙ (λ i. sym front i ++ (sym at i ∷ drop (suc (length w)) d)) in
+    let parts = every_first is_digit w b (drop (suc (length w)) d) (ap (every is_digit) (sym split) ∙ found.are) in
+    record {
+      is = parts.1;
+      few = omega (arith, found.few);
+      small = value_small 9 w parts.0 (omega (arith, found.few));
+      front = (λ i. front i ++ (at i ∷ [])) ∙ sym (take-suc d (length w) b more) ∙ ap (λ (k : ℕ). take k d) (sym (add-one (length w)));
+      stands = value_append 0 w (b ∷ []);
+    }
 
 -- where all bytes are digits, few enough, they are the text
 leading_all : (n : ℕ) (w : List ℕ) → every is_digit w ≡ true → length w ≤ n → leading_digits n w ≡ w
@@ -122,11 +134,14 @@ module _ (s : List ℕ) (found : Digits) (e : found ≡ digits_of (leading_digit
   front_digits = rw front ((leads 10 s).few, (leads 10 s).are)
 
   pub found_small : found.value < 10 ^ 10
-  found_small = omega (arith, stand, digits_below (leading_digits 10 s) (leads 10 s).are (leads 10 s).few)
+  found_small = omega (arith, stand, value_small 10 (leading_digits 10 s) (leads 10 s).are (leads 10 s).few)
 
   -- s is a number where they are all of it
   whole_word : found.count ≡ length s → leading_digits 10 s ≡ s
   whole_word h = sym front ∙ take_all found.count s (omega arith)
+
+  pub within : found.count ≤ length s
+  within = omega (arith, counted, ap length front, length-take found.count s)
 
   pub word_digits : found.count ≡ length s → (length s ≤ 10) × (every is_digit s ≡ true)
   word_digits h = subst (λ w. (length w ≤ 10) × (every is_digit w ≡ true)) (whole_word h) ((leads 10 s).few, (leads 10 s).are)
@@ -142,31 +157,26 @@ module _ (s : List ℕ) (found : Digits) (e : found ≡ digits_of (leading_digit
       by false n = number_other s n
 
   -- and its first line is one where the line end follows them
-  line_front : found.count < length s → get_or s found.count 0 ≡ line_end
-      → (has line_end s ≡ true) × (before line_end s ≡ take found.count s)
-  line_front h end =
-      let rest = drop (suc found.count) s in
-      let text = split_at s found.count 0 h ∙ ap (λ (b : ℕ). take found.count s ++ (b ∷ rest)) end in
+  line_front : starts_with line_end (drop found.count s) ≡ true
+      → (has line_end s ≡ true) × (before line_end s ≡ take found.count s) × (after line_end s ≡ drop 1 (drop found.count s))
+  line_front ends =
+      let rest = drop 1 (drop found.count s) in
+      let text = sym (take-append-drop found.count s) ∙ ap (λ (l : List ℕ). take found.count s ++ l) (starts_split line_end _ ends) in
       let first = first_after line_end (take found.count s) rest (no_line_end (take found.count s) front_digits.1) in
-      (ap (has line_end) text ∙ first.0, ap (before line_end) text ∙ first.1)
+      (ap (has line_end) text ∙ first.0, ap (before line_end) text ∙ first.1, ap (after line_end) text ∙ first.2)
 
-  pub line_number : found.count < length s → get_or s found.count 0 ≡ line_end → is_numeral (take found.count s) ≡ true
-      → number_line s ≡ some (pos found.value, found.count + 1)
+  pub line_decides : starts_with line_end (drop found.count s) ≡ true → (t : Bool) → is_numeral (take found.count s) ≡ t
+      → number_line s ≡ cond t (some (pos found.value, drop 1 (drop found.count s))) none
   unfolding number_line
-  line_number h end n =
-      let line = line_front h end in
-      let long = length-take-le found.count s (omega arith) in
+  line_decides ends true n =
+      let line = line_front ends in
       let stands = ap value front ∙ sym stand in
-      rw (line.0, line.1, number_numeral (take found.count s) n) (λ i. some (pos (stands i), long i + 1))
+      rw (line.0, line.1, line.2, number_numeral (take found.count s) n) (λ i. some (pos (stands i), drop 1 (drop found.count s)))
+  line_decides ends false n = let line = line_front ends in rw (line.0, line.1, number_other (take found.count s) n)
 
-  pub line_no_number : found.count < length s → get_or s found.count 0 ≡ line_end → is_numeral (take found.count s) ≡ false
-      → number_line s ≡ none
+  pub line_other : starts_with line_end (drop found.count s) ≡ false → number_line s ≡ none
   unfolding number_line
-  line_no_number h end n = let line = line_front h end in rw (line.0, line.1, number_other (take found.count s) n)
-
-  pub line_other : (found.count < length s → get_or s found.count 0 ≡ line_end → ⊥) → number_line s ≡ none
-  unfolding number_line
-  line_other h = by (has line_end s) refl (is_numeral line) refl
+  line_other other = by (has line_end s) refl (is_numeral line) refl
     where
       line : List ℕ
       line = before line_end s
@@ -174,16 +184,14 @@ module _ (s : List ℕ) (found : Digits) (e : found ≡ digits_of (leading_digit
       passed : is_numeral line ≡ true → found.count ≡ length line
       passed n = counted ∙ ap length (sym (leading_before 10 s) ∙ numeral_leads line n)
 
-      ends : has line_end s ≡ true → is_numeral line ≡ true → found.count < length s
-      ends t n = omega (arith, passed n, ltb-true (length line) (length s) (sym (has_before line_end s) ∙ t))
-
-      end : has line_end s ≡ true → is_numeral line ≡ true → get_or s found.count 0 ≡ line_end
+      end : has line_end s ≡ true → is_numeral line ≡ true → drop found.count s ≡ line_end ∷ after line_end s
       end t n =
-          ap (λ (text : List ℕ). get_or text found.count 0) (split_at_first line_end s t)
-          ∙ get_or_at line line_end (after line_end s) 0 found.count (sym (passed n))
+          ap (λ (k : ℕ). drop k s) (passed n)
+          ∙ ap (drop (length line)) (split_at_first line_end s t)
+          ∙ drop_at line (line_end ∷ after line_end s) (length line) refl
 
       by : (p : Bool) → has line_end s ≡ p → (q : Bool) → is_numeral line ≡ q
-          → cond p (with_place (number false line) (length line + 1)) none ≡ none
+          → cond p (with_rest (number false line) (after line_end s)) none ≡ none
       by false t q n = refl
       by true t false n = rw (number_other line n)
-      by true t true n = absurd (h (ends t n) (end t n))
+      by true t true n = absurd (true≢false (sym (ap (starts_with line_end) (end t n)) ∙ other))

@@ -1,33 +1,32 @@
 -- Words as numbers: the rule of a number at each of the tests that the code makes, with and without a sign, and of a text's first line.
 use mathlib.Core.Path.{◌≡◌, refl, sym, ap, ◌∙◌}
-use mathlib.Core.Bool.{Bool, true, false, ◌&&◌, ◌||◌, not, cond, and-false, and-eq-true_iff, true≢false}
+use mathlib.Core.Bool.{Bool, true, false, ◌&&◌, ◌||◌, not, cond, and-false, and-true, and-eq-true_iff, true≢false}
 use mathlib.Core.List.{List, [], ◌∷◌}
 use mathlib.Core.Option.{Option, none, some, some-injective, none-ne-some}
-use Prim.Native.Nat.{ℕ, ◌+◌, ◌≤◌}
-use native.Mathlib.Nat as NL
-use native.Mathlib.Omega.{arith}
+use Prim.Native.Nat.{ℕ, ◌≤◌}
 use borrow.Author.Tests.{eq-eqb, ne_eqb, leb-true, eqb-true}
 use lib.Dec.{leb, eqb}
 use lib.IntN.{ℤ, pos, neg_ℤ}
-use lib.ListN.{length, drop, get_or}
+use lib.ListN.{length, take, drop}
+use lib.Pointwise.{pointwise}
+use Rattle.std.proofs.Common.{Some, None, Ok, Err}
+use Rattle.std.specs.Prelude as P
+use Rattle.std.specs.Option.{ok_or}
 use Rattle.algebra.specs.Table.{every}
 use Rattle.text.specs.Bytes.{line_end}
-use Rattle.text.specs.Lines.{before, has}
-use Rattle.text.specs.Numbers.{zero_digit, is_digit, minus, starts_with, is_numeral, value, negative_of, number}
-use Rattle.text.specs.Leading.{with_place, number_line}
+use Rattle.text.specs.Lines.{before, after, has}
+use Rattle.text.specs.Numbers.{zero_digit, is_digit, minus, starts_with, is_numeral, value, negative_of, number, found}
+use Rattle.text.specs.Leading.{with_rest, number_line}
 
 -- ---- the first byte
-pub starts_empty : (b : ℕ) (w : List ℕ) → length w ≤ 0 → starts_with b w ≡ false
-starts_empty b [] h = refl
-starts_empty b (x ∷ w) h = absurd (NL.not-suc-le-zero h)
+-- what `strip_prefix` tests
+pub starts_prefix : (b : ℕ) (w : List ℕ) → starts_with b w ≡ pointwise eqb (take 1 w) (b ∷ [])
+starts_prefix b [] = refl
+starts_prefix b (x ∷ w) = sym (and-true (eqb x b))
 
-pub starts_first : (b : ℕ) (w : List ℕ) → 1 ≤ length w → starts_with b w ≡ eqb (get_or w 0 0) b
-starts_first b [] h = absurd (NL.not-suc-le-zero h)
-starts_first b (x ∷ w) h = refl
-
-pub starts_long : (b : ℕ) (w : List ℕ) → starts_with b w ≡ true → 1 ≤ length w
-starts_long b [] e = absurd (true≢false (sym e))
-starts_long b (x ∷ w) e = omega arith
+pub starts_split : (b : ℕ) (w : List ℕ) → starts_with b w ≡ true → w ≡ b ∷ drop 1 w
+starts_split b [] e = absurd (true≢false (sym e))
+starts_split b (x ∷ w) e = ap (λ (y : ℕ). y ∷ w) (eqb-true x b e)
 
 -- ---- digits
 pub digit_range : (b : ℕ) → is_digit b ≡ true → (zero_digit ≤ b) × (b ≤ 0x39)
@@ -97,21 +96,31 @@ pub number_plain : (w : List ℕ) → starts_with minus w ≡ false → number t
 unfolding number
 number_plain w e = simp e
 
+-- ---- what `ok_or` makes of a number that may be none
+module _ {E : Type 0} (e : E) {told : Option ℤ} where
+  pub found_yes : (read : P.Option ℤ) → found read ≡ told → {z : ℤ} → ok_or read e ≡ Ok z → told ≡ some z
+  found_yes None says q = cc
+  found_yes (Some y) says q = sym says ∙ ap some cc
+
+  pub found_no : (read : P.Option ℤ) → found read ≡ told → {x : E} → ok_or read e ≡ Err x → (told ≡ none) × (e ≡ x)
+  found_no None says q = (sym says, cc)
+  found_no (Some y) says q = cc
+
 -- ---- a first line that is a number
 -- what is told of it
-pub record TellsLine (s : List ℕ) (z : ℤ) (next : ℕ) : Type 0 where
+pub record TellsLine (s : List ℕ) (z : ℤ) (rest : List ℕ) : Type 0 where
   pub ends : has line_end s ≡ true
   pub is_number : number false (before line_end s) ≡ some z
-  pub next_line : next ≡ length (before line_end s) + 1
+  pub others : after line_end s ≡ rest
 
-pub tells_line : (s : List ℕ) (z : ℤ) (next : ℕ) → number_line s ≡ some (z, next) → TellsLine s z next
+pub tells_line : (s : List ℕ) (z : ℤ) (rest : List ℕ) → number_line s ≡ some (z, rest) → TellsLine s z rest
 unfolding number_line
-tells_line s z next e = by (has line_end s) refl (number false (before line_end s)) refl e
+tells_line s z rest e = by (has line_end s) refl (number false (before line_end s)) refl e
   where
     by : (p : Bool) → has line_end s ≡ p → (n : Option ℤ) → number false (before line_end s) ≡ n
-        → cond p (with_place n (length (before line_end s) + 1)) none ≡ some (z, next) → TellsLine s z next
-    by false t n m h = absurd (none-ne-some (z, next) h)
-    by true t none m h = absurd (none-ne-some (z, next) h)
+        → cond p (with_rest n (after line_end s)) none ≡ some (z, rest) → TellsLine s z rest
+    by false t n m h = absurd (none-ne-some (z, rest) h)
+    by true t none m h = absurd (none-ne-some (z, rest) h)
     by true t (some y) m h =
         let both = some-injective _ _ h in
-        record { ends = t; is_number = m ∙ ap (λ (q : ℤ × ℕ). some q.0) both; next_line = sym (ap (λ (q : ℤ × ℕ). q.1) both) }
+        record { ends = t; is_number = m ∙ ap (λ (q : ℤ × List ℕ). some q.0) both; others = ap (λ (q : ℤ × List ℕ). q.1) both }

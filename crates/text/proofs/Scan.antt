@@ -1,46 +1,24 @@
--- What stands before and after the first b of a text. One step of a loop goes by `drop_next`; the other laws go by induction on the text,
--- with the test of its first byte as a case.
-use mathlib.Core.Path.{◌≡◌, refl, sym, ap, ◌∙◌}
-use mathlib.Core.Bool.{Bool, true, false, cond, and-false}
+-- What stands before and after the first b of a text, by induction on the text, with the test of its first byte as a case.
+use mathlib.Core.Path.{◌≡◌, refl, sym, ap, subst, ◌∙◌}
+use mathlib.Core.Bool.{Bool, true, false, ◌&&◌, ◌||◌, cond}
 use mathlib.Core.List.{List, [], ◌∷◌}
-use Prim.Native.Nat.{ℕ, zero, suc, ◌+◌, ◌-◌, ◌≤◌, ◌<◌}
+use mathlib.Core.Option.{Option, some, none}
+use Prim.Native.Nat.{ℕ, zero, suc, ◌+◌, ◌-◌, ◌≤◌, ◌<◌, min}
 use native.Mathlib.Nat as NL
 use native.Mathlib.Numerals.{add-one}
 use native.Mathlib.Omega.{arith}
-use borrow.Author.Tests.{eq-eqb, ne_eqb, lt-ltb, le-ltb}
+use borrow.Author.Tests.{lt-ltb, le-ltb, ltb-true, ltb-false}
 use lib.Dec.{eqb, ltb, leb-suc-suc}
-use lib.ListN.{length, take, drop, get_or, length-drop, drop_of_length-le}
+use lib.ListN.{length, take, drop, length-drop, drop_of_length-le}
 use lib.Seq.{drop-drop}
+use lib.Pointwise.{pointwise}
+use Rattle.std.proofs.Common.{Bor, Some, None, Ok, Err}
+use Rattle.std.specs.Prelude as P
+use Rattle.std.specs.List.{list_any}
+use Rattle.std.specs.Option.{ok_or}
 use Rattle.algebra.specs.Table.{same_list}
-use Rattle.algebra.proofs.Slice.{drop_next}
 use Rattle.text.specs.Bytes.{line_end, space}
-use Rattle.text.specs.Lines.{before, after, has, after_lines, longer, words, LineStarts}
-
--- ---- one step of a loop
--- the byte at i is b, and it is not
-module _ (b : ℕ) (s : List ℕ) (i : ℕ) (h : i < length s) where
-  pub before_hit : get_or s i 0 ≡ b → before b (drop i s) ≡ []
-  unfolding before
-  before_hit e = rw (drop_next s i 0 h, eq-eqb (get_or s i 0) b e)
-
-  pub before_miss : (get_or s i 0 ≡ b → ⊥) → before b (drop i s) ≡ get_or s i 0 ∷ before b (drop (i + 1) s)
-  unfolding before
-  before_miss e = rw (drop_next s i 0 h, ne_eqb (get_or s i 0) b e)
-
--- the bytes at i of two texts are the same, and they are not
-module _ (s t : List ℕ) (i : ℕ) (h : i < length s) (k : i < length t) where
-  pub same_next : get_or s i 0 ≡ get_or t i 0 → same_list eqb (drop i s) (drop i t) ≡ same_list eqb (drop (i + 1) s) (drop (i + 1) t)
-  same_next e = rw (drop_next s i 0 h, drop_next t i 0 k, eq-eqb (get_or s i 0) (get_or t i 0) e)
-
-  pub same_differ : (get_or s i 0 ≡ get_or t i 0 → ⊥) → same_list eqb (drop i s) (drop i t) ≡ false
-  same_differ e = rw (drop_next s i 0 h, drop_next t i 0 k, ne_eqb (get_or s i 0) (get_or t i 0) e)
-
--- texts of other lengths differ
-pub same_length : (s t : List ℕ) → (length s ≡ length t → ⊥) → same_list eqb s t ≡ false
-same_length [] [] h = absurd (h refl)
-same_length [] (y ∷ t) h = refl
-same_length (x ∷ s) [] h = refl
-same_length (x ∷ s) (y ∷ t) h = rw (same_length s t (λ e. h (ap suc e))) (and-false (eqb x y))
+use Rattle.text.specs.Lines.{before, after, has, around, around_found, after_lines, longer, words, LineStarts}
 
 -- after one step more there is one fewer to go
 pub one_fewer : (n i : ℕ) → i < n → n - i ≡ suc (n - (i + 1))
@@ -122,15 +100,80 @@ module _ (b : ℕ) (s : List ℕ) (k : ℕ) (e : k ≡ length (before b s)) wher
   pub until_after : drop (k + 1) s ≡ after b s
   until_after = ap (λ (n : ℕ). drop n s) (add-one k ∙ ap suc e) ∙ after_drop b s
 
-  -- where the text does not go on, there is no b, and nothing after it
-  pub until_none : length s ≤ k → drop k s ≡ after b s
-  until_none h = drop_of_length-le s h ∙ sym (drop_of_length-le s {i = k + 1} (omega arith)) ∙ until_after
+  -- and so is the text's end, where it does not go on
+  pub until_past : drop (min (length s) (k + 1)) s ≡ after b s
+  until_past = by (ltb k (length s)) refl
+    where
+      by : (t : Bool) → ltb k (length s) ≡ t → drop (min (length s) (k + 1)) s ≡ after b s
+      by true t = ap (λ (n : ℕ). drop n s) (omega (arith, ltb-true k (length s) t)) ∙ until_after
+      by false t =
+          let h = ltb-false k (length s) t in
+          drop_of_length-le s (omega (arith, h)) ∙ sym (drop_of_length-le s {i = k + 1} (omega (arith, h))) ∙ until_after
 
   pub until_end : length s ≤ k → has b s ≡ false
   until_end h = has_before b s ∙ le-ltb (length (before b s)) (length s) (omega arith)
 
   pub until_found : k < length s → has b s ≡ true
   until_found h = has_before b s ∙ lt-ltb (length (before b s)) (length s) (omega arith)
+
+  -- so it is split there
+  pub around_none : length s ≤ k → around b s ≡ none
+  around_none h = rw (until_end h)
+
+  pub around_some : (x : ℕ) (rest : List ℕ) → drop k s ≡ x ∷ rest → k < length s → around b s ≡ some (take k s, rest)
+  around_some x rest split h = rw (until_found h) (λ i. some (sym until_before i, (sym until_after ∙ others) i))
+    where
+      others : drop (k + 1) s ≡ rest
+      others = sym (drop-drop 1 k s) ∙ ap (drop 1) split
+
+-- what is told of a text that is split at its first b
+pub record Around (b : ℕ) (s front rest : List ℕ) : Type 0 where
+  pub ends : has b s ≡ true
+  pub front_is : before b s ≡ front
+  pub rest_is : after b s ≡ rest
+
+abbrev Tells : ℕ → List ℕ → Option (List ℕ × List ℕ) → Type 0
+Tells b s (some (front, rest)) = Around b s front rest
+Tells b s none = has b s ≡ false
+
+tells : (b : ℕ) (s : List ℕ) → Tells b s (around b s)
+tells b s = by (has b s) refl
+  where
+    by : (t : Bool) → has b s ≡ t → Tells b s (cond t (some (before b s, after b s)) none)
+    by true e = record { ends = e; front_is = refl; rest_is = refl }
+    by false e = e
+
+-- as an error e says where it is not
+module _ {E : Type 0} (b : ℕ) (s : List ℕ) (e : E) where
+  pub split_yes : (split : P.Option (Bor (List ℕ) × Bor (List ℕ))) → around_found split ≡ around b s → {front rest : Bor (List ℕ)}
+      → ok_or split e ≡ Ok (front, rest) → Around b s front.now rest.now
+  split_yes None says q = cc
+  split_yes (Some p) says {front} {rest} q =
+      let is : p ≡ (front, rest) = cc in
+      subst (λ p. Tells b s (around_found (Some p))) is (subst (Tells b s) (sym says) (tells b s))
+
+  pub split_no : (split : P.Option (Bor (List ℕ) × Bor (List ℕ))) → around_found split ≡ around b s → {x : E}
+      → ok_or split e ≡ Err x → (has b s ≡ false) × (e ≡ x)
+  split_no None says q = (subst (Tells b s) (sym says) (tells b s), cc)
+  split_no (Some p) says q = cc
+
+-- ---- what the library tests
+-- `==` on slices
+pub same_pointwise : (s t : List ℕ) → same_list eqb s t ≡ pointwise eqb s t
+same_pointwise [] [] = refl
+same_pointwise [] (y ∷ t) = refl
+same_pointwise (x ∷ s) [] = refl
+same_pointwise (x ∷ s) (y ∷ t) = ap (λ (q : Bool). eqb x y && q) (same_pointwise s t)
+
+-- `contains`
+pub has_any : (b : ℕ) (s : List ℕ) → has b s ≡ list_any (λ x. eqb x b) s
+unfolding has
+has_any b [] = refl
+has_any b (x ∷ s) = by (eqb x b) (has_any b s)
+  where
+    by : (t : Bool) → has b s ≡ list_any (λ y. eqb y b) s → cond t true (has b s) ≡ (t || list_any (λ y. eqb y b) s)
+    by true ih = refl
+    by false ih = ih
 
 -- a line's first word, and the words of what stands after its first space
 pub words_split : (s : List ℕ) → words s ≡ before space s ∷ cond (has space s) (words (after space s)) []

@@ -1,5 +1,9 @@
 -- Lines and words: "Each line ends with byte 0A hexadecimal. A line's words are its pieces between single spaces."
 use Rattle.std.specs.Prelude.{◌≡◌, Bool, true, false, not, cond, List, [], ◌∷◌, ◌++◌, ℕ, zero, suc, ◌+◌, ◌-◌, eqb, length, drop}
+use Rattle.std.specs.Prelude.{Some, None}
+use Rattle.std.specs.Prelude as P
+use Rattle.std.specs.Borrow.{Bor}
+use Rattle.std.proofs.Math.Option.{Option, none, some}
 use Rattle.algebra.specs.Table.{every}
 use Rattle.text.specs.Bytes.{line_end, space}
 
@@ -16,6 +20,15 @@ after b (x ∷ s) = cond (eqb x b) s (after b s)
 unfoldable pub has : ℕ → List ℕ → Bool
 has b [] = false
 has b (x ∷ s) = cond (eqb x b) true (has b s)
+
+-- what stands before and after the first b of s, where it has one
+abbrev pub around : ℕ → List ℕ → Option (List ℕ × List ℕ)
+around b s = cond (has b s) (some (before b s, after b s)) none
+
+-- what the code finds, as this says it
+abbrev pub around_found : P.Option (Bor (List ℕ) × Bor (List ℕ)) → Option (List ℕ × List ℕ)
+around_found (Some (front, rest)) = some (front.now, rest.now)
+around_found None = none
 
 -- ---- lines
 -- what follows the first n line ends

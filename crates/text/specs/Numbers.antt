@@ -1,10 +1,10 @@
 -- Numbers in decimal: "A number is 1 to 10 digits, no leading zero except `0` itself; a minus sign is allowed before a nonzero TERM number
 -- only."
 use Rattle.std.specs.Prelude.{◌≡◌, ◌↔◌, Bool, true, false, ◌&&◌, ◌||◌, not, cond, List, [], ◌∷◌, ◌++◌, ℕ, zero, suc, ◌+◌, ◌-◌, ◌*◌, ◌/◌, ◌%◌, ◌^◌, ◌<◌, leb, eqb, ltb, ℤ, pos, negsuc, neg_ℤ, nat_abs, length, drop}
+use Rattle.std.specs.Prelude.{Some, None}
+use Rattle.std.specs.Prelude as P
 use Rattle.std.proofs.Math.Option.{Option, none, some}
 use Rattle.algebra.specs.Table.{every}
-use Rattle.text.specs.declared.Number.{Number}
-use Rattle.text.specs.declared.Number.TheVariants.{Value, NotANumber}
 
 -- ---- reading
 -- the bytes `0` to `9`, and `-`
@@ -43,9 +43,9 @@ unfoldable pub number : Bool → List ℕ → Option ℤ
 number signs w = cond (is_numeral w) (some (pos (value w))) (cond (signs && starts_with minus w) (negative_of (drop 1 w)) none)
 
 -- what the code finds, as the definition says it
-abbrev pub found : Number → Option ℤ
-found (Value x) = some x
-found NotANumber = none
+abbrev pub found : P.Option ℤ → Option ℤ
+found (Some x) = some x
+found None = none
 
 -- ---- writing
 abbrev pub digit : ℕ → List ℕ

@@ -1,56 +1,41 @@
 // Lines, and the parts of a line.
 
-ghost use Rattle.std.specs.Prelude.{◌≡◌, ◌≤◌, eqb, length, drop};
-ghost use Rattle.algebra.specs.Table.{same_list};
-ghost use Rattle.text.specs.Lines.{before, after, line_start};
+ghost use Rattle.std.specs.Prelude.{◌≡◌, ◌≤◌, length};
+ghost use Rattle.text.specs.Lines.{before, after, around, around_found, line_start};
 
-// How many bytes of `s` stand before its first `b`: all of them where it has none.
+// How many bytes of `s` stand before its first `b`: all of them where it has none. So the definition `before` has it, and this is no
+// `Option`.
 pub fn until(s: &[u8], b: u8) -> usize
     ensures found { result ≡ length (before b s.now) }
     ensures within { result ≤ length s.now }
 {
-    for i in 0..s.len() {
-        if s[i] == b {
-            return i;
-        }
-    }
-    s.len()
+    s.iter().position(|x| *x == b).unwrap_or(s.len())
 }
 
-// Where the bytes after the first `b` of `s` begin: at its end where it has none.
-pub fn past(s: &[u8], b: u8) -> usize
-    ensures rest { drop result s.now ≡ after b s.now }
-    ensures within { result ≤ length s.now }
+// What stands before and after the first `b` of `s`, where it has one.
+pub fn split_once(s: &[u8], b: u8) -> Option<(&[u8], &[u8])>
+    ensures { around_found result ≡ around b s.now }
 {
-    let at = until(s, b);
-    if at < s.len() {
-        return at + 1;
-    }
-    at
+    let (front, rest) = s.split_at(until(s, b));
+    let (_, after) = rest.split_first()?;
+    Some((front, after))
 }
 
-pub fn same(s: &[u8], t: &[u8]) -> bool
-    ensures { result ≡ same_list eqb s.now t.now }
+// The bytes after the first `b` of `s`: none where it has none.
+pub fn after(s: &[u8], b: u8) -> &[u8]
+    ensures rest { result.now ≡ after b s.now }
+    ensures within { length result.now ≤ length s.now }
 {
-    if s.len() != t.len() {
-        return false;
-    }
-    for i in 0..s.len() {
-        if s[i] != t[i] {
-            return false;
-        }
-    }
-    true
+    &s[s.len().min(until(s, b) + 1)..]
 }
 
-// Where line `n`, from 1, begins.
+// Where line `n`, from 1, begins. The loop counts lines that are gone past, and reads nothing by the count.
 pub fn line_start(text: &[u8], n: usize) -> usize
     ensures { result ≡ line_start n text.now }
 {
     let mut rest = text;
     for _ in 1..n {
-        let next = past(rest, b'\n');
-        rest = &rest[next..];
+        rest = after(rest, b'\n');
     }
     text.len() - rest.len()
 }

@@ -1,21 +1,24 @@
 -- The checks and the highs' own check are the call's list of conditions.
-use mathlib.Core.Path.{◌∙◌}
+use mathlib.Core.Path.{◌≡◌, ◌∙◌}
 use mir.Facts.{to_z-of_z}
+use Rattle.std.proofs.Common.{rules, Err}
 use Rattle.quantile.specs.Call.{possible_query}
-use Rattle.quantile.proofs.Joined.{Told, told_passed, joined}
+use Rattle.quantile.proofs.Steps.{checks_refuse, row_decides}
 use Rattle.quantile.proofs.possible.Goals as goal
+
+pub returns-in_err-checked : goal.returns-in_err-checked
+unfolding possible_query
+returns-in_err-checked c =
+    let rows = c.args.rows in
+    let level = c.ranges.level in
+    let is : c.from_residual.result ≡ Err c.in_err-checked.field-0.0 = search rules in
+    rw is (checks_refuse rows.high.now 35 rows.low.now rows.high.now c.args.level _ (simp to_z-of_z at c.in_err-checked.ensures.answer))
 
 pub returns : goal.returns
 unfolding possible_query
 returns c =
-    let a = c.args in
+    let rows = c.args.rows in
     let level = c.ranges.level in
-    let told : Told a.low.now a.high.now a.level c.checked.result = record { is = simp to_z-of_z at c.checked.ensures } in
-    simp to_z-of_z at c.query_by.ensures ∙ joined a.high.now 35 told
-
-pub query_by-requires : goal.query_by-requires
-query_by-requires c passes =
-    let a = c.args in
-    let level = c.ranges.level in
-    let told : Told a.low.now a.high.now a.level c.checked.result = record { is = simp to_z-of_z at c.checked.ensures } in
-    (told_passed told passes).high_summable
+    let decides = row_decides rows.high.now 35 rows.low.now rows.high.now c.args.level (simp to_z-of_z at c.in_ok-checked.ensures.answer) in
+    let same = c.in_ok-checked.ensures.same_rows in
+    simp (to_z-of_z, same.0, same.1) at c.total_of.ensures ∙ decides

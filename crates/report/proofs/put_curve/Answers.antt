@@ -26,27 +26,28 @@ refused_text job weights number place n e = rw (sym e, n)
 few : (job : Job) (weights : List ℕ) → accepted ≡ curve_answer job weights program_rows → job.last ≤ most_last
 few job weights e = (limits job weights program_rows (sym e)).last_most
 
-pub overflow_add-job : goal.overflow_add-job
-overflow_add-job c = let h = few _ _ c.in-Accepted.ensures.answer in search rules
+pub overflow_add-table : goal.overflow_add-table
+overflow_add-table c = let h = few _ _ c.in-Ok.ensures.answer in search rules
 
-pub put_table-requires-clause-lows : goal.put_table-requires-clause-lows
-put_table-requires-clause-lows c = omega (arith, few _ _ c.in-Accepted.ensures.answer, c.curve-answer.auto.low)
+pub invariant_of-table : goal.invariant_of-table
+invariant_of-table c =
+    let h = few _ _ c.in-Ok.ensures.answer in
+    record {
+      long_enough = record {
+        lows = omega (arith, h);
+        highs = omega (arith, h);
+        bounds = omega (arith, h);
+        marks = omega (arith, h);
+      };
+    }
 
-pub put_table-requires-clause-highs : goal.put_table-requires-clause-highs
-put_table-requires-clause-highs c = omega (arith, few _ _ c.in-Accepted.ensures.answer, c.curve-answer.auto.high)
+pub returns-in-Ok : goal.returns-in-Ok
+returns-in-Ok c =
+    let text = accepted_text c.args.job c.args.weights.now _ c.in-Ok.ensures.answer c.in-Ok.ensures.rows in
+    let put = c.put.ensures in
+    search (rules, put, text)
 
-pub put_table-requires-clause-bounds : goal.put_table-requires-clause-bounds
-put_table-requires-clause-bounds c = omega (arith, few _ _ c.in-Accepted.ensures.answer, c.curve-answer.auto.bound)
-
-pub put_table-requires-clause-marks : goal.put_table-requires-clause-marks
-put_table-requires-clause-marks c = omega (arith, few _ _ c.in-Accepted.ensures.answer, c.curve-answer.auto.mark)
-
-pub returns-in-Accepted : goal.returns-in-Accepted
-returns-in-Accepted c =
-    rw (accepted_text c.args.job c.args.weights.now _ c.in-Accepted.ensures.answer c.in-Accepted.ensures.rows) c.put_table.ensures
-
-pub returns-in-Refused : goal.returns-in-Refused
-returns-in-Refused c =
-    let reason = c.in-Refused.reason in
-    rw (refused_text c.args.job c.args.weights.now (number_of reason) _ (reason_refuses reason) c.in-Refused.ensures.answer)
-    (rw c.reason_number.ensures at c.put_refusal.ensures)
+pub returns-in-Err : goal.returns-in-Err
+returns-in-Err c =
+    let reason = c.in-Err.refusal.reason in
+    rw (refused_text c.args.job c.args.weights.now (number_of reason) _ (reason_refuses reason) c.in-Err.ensures.answer) c.put_refusal.ensures

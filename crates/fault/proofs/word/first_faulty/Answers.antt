@@ -42,11 +42,11 @@ overflow_add-result c =
     let sheet = c.args.sheet.now in
     let word = c.first_no_number-word in
     let stands =
-    part_is sheet c.args.n c.line_start-start.result c.until-end.result c.line_start-start.ensures c.until-end.ensures.found
+    part_is sheet c.args.n c.line_start-start.result c.until.result c.line_start-start.ensures c.until.ensures.found
     c.has_signs.result c.has_signs.ensures word.result word.ensures in
     omega (arith, (in_sheet c.args.n sheet).within, ap (λ (p : Part). p.start) stands)
 
 pub returns : goal.returns
 returns c =
-    part_is c.args.sheet.now c.args.n c.line_start-start.result c.until-end.result c.line_start-start.ensures c.until-end.ensures.found
+    part_is c.args.sheet.now c.args.n c.line_start-start.result c.until.result c.line_start-start.ensures c.until.ensures.found
     c.has_signs.result c.has_signs.ensures c.first_no_number-word.result c.first_no_number-word.ensures

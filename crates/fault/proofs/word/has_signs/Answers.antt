@@ -13,6 +13,6 @@ use Rattle.fault.proofs.word.has_signs.Goals as goal
 pub returns : goal.returns
 returns c =
     let line = c.args.line.now in
-    c.same.ensures
-    ∙ ap (λ (w : List ℕ). same_list eqb w TERM) (until_before space line c.until-space.result c.until-space.ensures.found)
+    c.eq.ensures
+    ∙ ap (λ (w : List ℕ). same_list eqb w TERM) (until_before space line c.until.result c.until.ensures.found)
     ∙ sym (ap (λ (ws : List (List ℕ)). same_list eqb (get_or ws 0 []) TERM) (words_split line))

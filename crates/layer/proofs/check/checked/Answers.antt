@@ -1,72 +1,51 @@
--- Each test of the code is a condition of the list, due where no condition before it holds; behind the last of them the list is that of the
--- layers.
-use borrow.Author.Tests.{lt-ltb, le-ltb}
-use mathlib.Core.Path.{◌≡◌, sym, ◌∙◌}
-use mathlib.Core.Bool.{Bool, false}
-use mathlib.Core.List.{List}
-use Prim.Native.Nat.{ℕ, ◌≤◌}
-use lib.Dec.{ltb}
-use lib.IntN.{ℤ}
-use lib.ListN.{length}
-use Rattle.model.specs.Answer.{Condition}
-use Rattle.model.proofs.Answer.{Due, due_first, due_next, due_refuses, due_leaves}
-use Rattle.intervals.specs.Checks.{wrong_lengths, first_wrong}
-use Rattle.intervals.proofs.Passed.{same_length}
-use Rattle.layer.specs.declared.LayerList.{LayerList}
-use Rattle.layer.specs.Call.{wrong_count, checks}
+-- Each step answers for its part of the list; behind the last of them the list is that of the layers.
+use mathlib.Core.Path.{◌≡◌, ◌∙◌}
+use Rattle.std.proofs.Common.{rules, Err}
 use Rattle.layer.proofs.Passed.{counted}
+use Rattle.layer.proofs.Returned.{lengths_refuse, right_lengths, entries_refuse, count_refuses, right_count, layers_last}
 use Rattle.layer.proofs.check.checked.Goals as goal
 
-module _ (low high : List ℤ) (list : LayerList) (low_places high_places : ℕ) where
-  abbrev conditions : List Condition
-  conditions = checks low high list low_places high_places
-
-  -- 31, the rows
-  rows_due : {t : Bool} → t ≡ wrong_lengths (length low) (length high) → Due conditions 0 t
-  rows_due e = due_first e
-
-  -- 33, the entries, with the place of the first that is wrong
-  entry_due : {t : Bool} (entry : ℕ) → t ≡ wrong_lengths (length low) (length high) → t ≡ false → entry ≡ first_wrong low high
-      → Due conditions 1 (ltb entry (length low))
-  entry_due entry rows fails e = due_next (rows_due rows) fails (rw e)
-
-  -- 61, the list's length
-  count_due : {t u : Bool} (entry : ℕ) → t ≡ wrong_lengths (length low) (length high) → t ≡ false → entry ≡ first_wrong low high
-      → length low ≤ entry → u ≡ wrong_count list.count low_places high_places → Due conditions 2 u
-  count_due entry rows fails e right count = due_next (entry_due entry rows fails e) (le-ltb _ _ right) count
-
-pub returns-then-are_wrong_rows : goal.returns-then-are_wrong_rows
-returns-then-are_wrong_rows c =
+pub returns-in_err-check_lengths-clause-answer : goal.returns-in_err-check_lengths-clause-answer
+returns-in_err-check_lengths-clause-answer c =
     let a = c.args in
-    let due = rows_due a.low.now a.high.now a.list a.low_places a.high_places c.are_wrong_rows.ensures in
-    sym (due_refuses due c.if-are_wrong_rows.true)
+    let is : c.from_residual.result ≡ Err c.in_err-check_lengths.field-0.0 = search rules in
+    rw is (lengths_refuse a.rows.low.now a.rows.high.now a.list.now a.low_places a.high_places _ _ c.in_err-check_lengths.ensures)
 
-pub first_wrong_entry-entry-requires : goal.first_wrong_entry-entry-requires
-first_wrong_entry-entry-requires c = same_length _ _ (sym c.are_wrong_rows.ensures ∙ c.if-are_wrong_rows.false)
-
-pub returns-then-entry-low : goal.returns-then-entry-low
-returns-then-entry-low c =
+pub check_entries-requires : goal.check_entries-requires
+check_entries-requires c =
     let a = c.args in
-    let due = entry_due a.low.now a.high.now a.list a.low_places a.high_places c.first_wrong_entry-entry.result
-    c.are_wrong_rows.ensures c.if-are_wrong_rows.false c.first_wrong_entry-entry.ensures in
-    rw c.first_wrong_entry-entry.ensures (sym (due_refuses due (lt-ltb _ _ c.if-entry-low.true)))
+    right_lengths a.rows.low.now a.rows.high.now a.list.now a.low_places a.high_places c.in_ok-check_lengths.ensures
 
-pub returns-then-is_wrong_count : goal.returns-then-is_wrong_count
-returns-then-is_wrong_count c =
+pub returns-in_err-checked-clause-answer : goal.returns-in_err-checked-clause-answer
+returns-in_err-checked-clause-answer c =
     let a = c.args in
-    let due = count_due a.low.now a.high.now a.list a.low_places a.high_places c.first_wrong_entry-entry.result
-    c.are_wrong_rows.ensures c.if-are_wrong_rows.false c.first_wrong_entry-entry.ensures c.if-entry-low.false
-    c.is_wrong_count.ensures in
-    sym (due_refuses due c.if-is_wrong_count.true)
+    let is : c.from_residual-in_err-checked.result ≡ Err c.in_err-checked.field-0.0 = search rules in
+    rw is (entries_refuse a.rows.low.now a.rows.high.now a.list.now a.low_places a.high_places c.in_ok-check_lengths.ensures _ _
+    c.in_err-checked.ensures.answer)
+
+pub returns-in_err-check_count-clause-answer : goal.returns-in_err-check_count-clause-answer
+returns-in_err-check_count-clause-answer c =
+    let a = c.args in
+    let is : c.from_residual-in_err-check_count.result ≡ Err c.in_err-check_count.field-0.0 = search rules in
+    rw is (count_refuses a.rows.low.now a.rows.high.now a.list.now a.low_places a.high_places c.in_ok-check_lengths.ensures
+    c.in_ok-checked.ensures.answer _ _ c.in_err-check_count.ensures)
 
 -- 62 and 63, layer by layer
 pub check_layers-requires : goal.check_layers-requires
-check_layers-requires c = (counted _ _ _ (sym c.is_wrong_count.ensures ∙ c.if-is_wrong_count.false)).most
-
-pub returns : goal.returns
-returns c =
+check_layers-requires c =
     let a = c.args in
-    let due = count_due a.low.now a.high.now a.list a.low_places a.high_places c.first_wrong_entry-entry.result
-    c.are_wrong_rows.ensures c.if-are_wrong_rows.false c.first_wrong_entry-entry.ensures c.if-entry-low.false
-    c.is_wrong_count.ensures in
-    c.check_layers.ensures ∙ sym (due_leaves due c.if-is_wrong_count.false)
+    (counted _ _ _ (right_count a.rows.low.now a.rows.high.now a.list.now a.low_places a.high_places c.in_ok-check_lengths.ensures
+    c.in_ok-checked.ensures.answer c.in_ok-check_count.ensures)).most
+
+pub returns-in_err-check_layers-clause-answer : goal.returns-in_err-check_layers-clause-answer
+returns-in_err-check_layers-clause-answer c =
+    let a = c.args in
+    let is : c.from_residual-in_err-check_layers.result ≡ Err c.in_err-check_layers.field-0.0 = search rules in
+    rw is (c.in_err-check_layers.ensures ∙ layers_last a.rows.low.now a.rows.high.now a.list.now a.low_places a.high_places
+    c.in_ok-check_lengths.ensures c.in_ok-checked.ensures.answer c.in_ok-check_count.ensures)
+
+pub returns-clause-answer : goal.returns-clause-answer
+returns-clause-answer c =
+    let a = c.args in
+    c.in_ok-check_layers.ensures ∙ layers_last a.rows.low.now a.rows.high.now a.list.now a.low_places a.high_places
+    c.in_ok-check_lengths.ensures c.in_ok-checked.ensures.answer c.in_ok-check_count.ensures

@@ -8,4 +8,5 @@ use Rattle.quantile.specs.Call.{running_sum}
 use Rattle.quantile.proofs.search.quantile_of.Given as goal
 
 abbrev pub invariant-loop-x : goal.invariant-loop-x
-invariant-loop-x l = (l.sum ≡ sum_before l.row l.x) × Searched (λ y. le_z l.level (running_sum l.row y)) (length l.row) l.x
+invariant-loop-x l =
+    let row = l.row.entries.now in (l.sum ≡ sum_before row l.x) × Searched (λ y. le_z l.level (running_sum row y)) (length row) l.x

@@ -7,6 +7,3 @@ use Rattle.text.proofs.lines.line_start.Given as goal
 
 abbrev pub invariant-loop : goal.invariant-loop
 invariant-loop l = (after_lines (l.n - 1) l.text ≡ after_lines (l.n - l.counter) l.rest) × (length l.rest ≤ length l.text)
-
-abbrev pub decreases-loop : goal.decreases-loop
-decreases-loop l = l.n - l.counter

@@ -1,26 +1,19 @@
--- The loop's invariant: before the first b stand i bytes, and those before it in what is left of the text.
-use borrow.Author.Rules.{rules}
-use mathlib.Core.Path.{ap}
-use mathlib.Core.List.{List}
-use Prim.Native.Nat.{ℕ}
+-- What `position` counts stands before the first b, and where it finds none, all does.
+use mathlib.Core.Path.{◌≡◌, refl, sym, ◌∙◌}
 use native.Mathlib.Omega.{arith}
-use lib.ListN.{length, drop_of_length-le}
+use borrow.Author.Tests.{eq-eqb, ne_eqb, tests}
+use lib.ListN.{length}
+use Rattle.std.proofs.Common.{rules}
+use Rattle.std.proofs.lemmas.Iterator.{YieldsList-from_slice, IsFirst-from_position, index_from_first}
 use Rattle.text.specs.Lines.{before}
-use Rattle.text.proofs.Scan.{before_hit, before_miss}
 use Rattle.text.proofs.lines.until.Goals as goal
 
-pub returns-then-s-i : goal.returns-then-s-i
-returns-then-s-i c =
-    let at = c.before.before.before in
-    omega (arith, ap length (before_hit at.args.b at.args.s.now at.loop-i.i (search rules) c.if-s-i.true))
-
-pub loop-i-preserved : goal.loop-i-preserved
-loop-i-preserved c =
-    let at = c.before.before.before in
-    omega (arith, ap length (before_miss at.args.b at.args.s.now at.loop-i.i (search rules) c.if-s-i.false))
-
-pub returns : goal.returns
+pub returns-clause-found : goal.returns-clause-found
 unfolding before
-returns c =
-    let a = c.args in
-    omega (arith, ap (λ (l : List ℕ). length (before a.b l)) (drop_of_length-le a.s.now {i = c.loop-i.i} (omega arith)))
+returns-clause-found c =
+    let b = c.args.b in
+    let first = IsFirst-from_position _ _ _ (λ x. x ≡ b) (λ x. x ≡ b → ⊥) c.position.ensures.ran (YieldsList-from_slice c.args.s.now cc)
+    (λ x q k. search (rules, tests)) (λ x q k. search (rules, tests)) in
+    c.unwrap_or.ensures
+    ∙ sym (index_from_first (λ s. length (before b s)) (λ x. x ≡ b) (λ x. x ≡ b → ⊥) refl
+    (λ x s e. rw (eq-eqb x b e) refl) (λ x s e. rw (ne_eqb x b e) (omega arith)) c.args.s.now c.position.result first)

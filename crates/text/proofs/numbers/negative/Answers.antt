@@ -9,7 +9,7 @@ use lib.IntN.{ℤ, pos, neg_ℤ, nat_abs}
 use mir.Syntax.{w64}
 use mir.Val.{of_z}
 use Rattle.algebra.proofs.Size.{negative_local_fits, negative_held}
-use Rattle.text.specs.Numbers.{is_numeral, value, number}
+use Rattle.text.specs.Numbers.{is_numeral, value, number, found}
 use Rattle.text.proofs.Read.{numeral_some, negative_none, negative_zero, negative_value}
 use Rattle.text.proofs.Decimal.{numeral_below}
 use Rattle.text.proofs.numbers.negative.Goals as goal
@@ -29,21 +29,20 @@ module _ (word : List ℕ) (n : ℤ) (e : some n ≡ number false word) where
   value_zero : value word ≡ 0 → of_z w64 n ≡ 0
   value_zero h = ap (of_z w64) is_value.1 ∙ h
 
+pub returns-in_err-n : goal.returns-in_err-n
+returns-in_err-n c = ap found c.from_residual.ensures ∙ sym (negative_none c.args.digits.now (sym c.in_err-n.ensures))
+
 pub returns-then-n-eq0 : goal.returns-then-n-eq0
-returns-then-n-eq0 c =
-    sym (negative_zero c.args.digits.now (zero_value c.args.digits.now c.in-Value.n c.in-Value.ensures c.if-n-eq0.true))
+returns-then-n-eq0 c = sym (negative_zero c.args.digits.now (zero_value c.args.digits.now c.in_ok-n.n c.in_ok-n.ensures c.if-n-eq0.true))
 
 pub overflow_sub-result : goal.overflow_sub-result
-overflow_sub-result c =
-    negative_local_fits w64 c.in-Value.n (small c.args.digits.now c.in-Value.n c.in-Value.ensures)
-
-pub returns-in-NotANumber : goal.returns-in-NotANumber
-returns-in-NotANumber c = sym (negative_none c.args.digits.now (sym c.in-NotANumber.ensures))
+overflow_sub-result c = negative_local_fits w64 c.in_ok-n.n (small c.args.digits.now c.in_ok-n.n c.in_ok-n.ensures)
 
 pub returns-else-n-eq0 : goal.returns-else-n-eq0
 returns-else-n-eq0 c =
     let word = c.args.digits.now in
-    let e : some c.in-Value.n ≡ number false word = c.in-Value.ensures in
-    let known = is_value word c.in-Value.n e in
-    ap some (negative_held w64 c.in-Value.n (small word c.in-Value.n e) ∙ ap neg_ℤ known.1)
-    ∙ sym (negative_value word known.0 (λ h. c.if-n-eq0.false (value_zero word c.in-Value.n e h)))
+    let n = c.in_ok-n.n in
+    let e : some n ≡ number false word = c.in_ok-n.ensures in
+    let known = is_value word n e in
+    ap some (negative_held w64 n (small word n e) ∙ ap neg_ℤ known.1)
+    ∙ sym (negative_value word known.0 (λ h. c.if-n-eq0.false (value_zero word n e h)))

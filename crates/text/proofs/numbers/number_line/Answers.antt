@@ -1,27 +1,51 @@
 -- Where the line end follows the digits found, `is_numeral` decides; elsewhere the line is no number.
-use mathlib.Core.Path.{sym, ◌∙◌}
-use native.Mathlib.Omega.{arith}
-use Rattle.text.proofs.Leading.{front_digits, line_number, line_no_number, line_other}
+use mathlib.Core.Path.{◌≡◌, refl, sym, ap, ◌∙◌}
+use mathlib.Core.Bool.{Bool, true, false, cond}
+use mathlib.Core.List.{List, [], ◌∷◌}
+use mathlib.Core.Option.{some, none}
+use Prim.Native.Nat.{ℕ}
+use lib.Dec.{eqb}
+use lib.IntN.{pos}
+use lib.ListN.{take, drop}
+use lib.Pointwise.{pointwise}
+use Rattle.std.proofs.Common.{Bor}
+use Rattle.std.specs.Bool.{then_some}
+use Rattle.text.specs.Bytes.{line_end}
+use Rattle.text.specs.Numbers.{starts_with, is_numeral}
+use Rattle.text.specs.Leading.{line_found}
+use Rattle.text.proofs.Read.{starts_prefix}
+use Rattle.text.proofs.Leading.{within, front_digits, line_decides, line_other}
 use Rattle.text.proofs.numbers.number_line.Goals as goal
-use Rattle.text.proofs.numbers.number_line.Goals.{else-end-s-via-then-end-s+then-s-end-eq10+else-is_numeral, else-end-s-via-then-end-s+else-s-end-eq10, else-end-s-via-else-end-s}
+
+-- what `strip_prefix` says of the text that is left
+ends : {part rest : List ℕ} {t : Bool} → part ≡ rest → pointwise eqb (take 1 part) (line_end ∷ []) ≡ t → starts_with line_end rest ≡ t
+ends {part} e h = ap (starts_with line_end) (sym e) ∙ starts_prefix line_end part ∙ h
+
+pub split_at-requires : goal.split_at-requires
+split_at-requires c = within c.args.s.now c.leading_digits-digits.result c.leading_digits-digits.ensures
 
 pub is_numeral-requires : goal.is_numeral-requires
-is_numeral-requires c = front_digits c.args.s.now c.leading_digits-digits.result c.leading_digits-digits.ensures
+is_numeral-requires c =
+    rw c.split_at.ensures.front (front_digits c.args.s.now c.leading_digits-digits.result c.leading_digits-digits.ensures)
 
-pub returns-then-is_numeral : goal.returns-then-is_numeral
-returns-then-is_numeral c =
+pub returns-in_err-next : goal.returns-in_err-next
+returns-in_err-next c =
     let found = c.leading_digits-digits in
-    sym (line_number c.args.s.now found.result found.ensures c.if-end-s.true c.if-s-end-eq10.true
-    (sym c.is_numeral.ensures ∙ c.if-is_numeral.true))
+    ap line_found c.from_residual.ensures
+    ∙ sym (line_other c.args.s.now found.result found.ensures (ends c.split_at.ensures.back c.in_err-next.ensures.cases))
+
+-- as `is_numeral` says
+decided : (t : Bool) (n : ℕ) (rest : Bor (List ℕ)) → line_found (then_some t (n, rest)) ≡ cond t (some (pos n, rest.now)) none
+decided true n rest = refl
+decided false n rest = refl
 
 pub returns : goal.returns
 returns c =
     let found = c.leading_digits-digits in
-    sym (elim c.else-end-s.branch [
-      | else-end-s-via-then-end-s+then-s-end-eq10+else-is_numeral w ↦
-          line_no_number c.args.s.now found.result found.ensures w.if-end-s.true w.if-s-end-eq10.true
-          (sym w.is_numeral.ensures ∙ w.if-is_numeral.false)
-      | else-end-s-via-then-end-s+else-s-end-eq10 w ↦
-          line_other c.args.s.now found.result found.ensures (λ h. w.if-s-end-eq10.false)
-      | else-end-s-via-else-end-s w ↦ line_other c.args.s.now found.result found.ensures (λ h e. absurd (omega (arith, w.if-end-s.false)))
-    ])
+    let back = c.split_at.ensures.back in
+    let begins = c.in_ok-next.ensures.cases in
+    ap line_found c.then_some.ensures
+    ∙ decided c.is_numeral.result found.result.value c.in_ok-next.next
+    ∙ ap (λ (l : List ℕ). cond c.is_numeral.result (some (pos found.result.value, l)) none) (begins.1 ∙ ap (drop 1) back)
+    ∙ sym (line_decides c.args.s.now found.result found.ensures (ends back begins.0) c.is_numeral.result
+    (ap is_numeral (sym c.split_at.ensures.front) ∙ sym c.is_numeral.ensures))

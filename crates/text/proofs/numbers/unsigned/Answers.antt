@@ -22,8 +22,8 @@ returns-then-is_numeral c =
     ap some (to_z_pos w64 (omega (arith, found_small c.args.word.now called.result called.ensures)))
     ∙ sym (word_number c.args.word.now called.result called.ensures c.if-digits-word.true (sym c.is_numeral.ensures ∙ c.if-is_numeral.true))
 
-pub returns : goal.returns
-returns c =
+pub returns-else-digits-word : goal.returns-else-digits-word
+returns-else-digits-word c =
     sym (elim c.else-digits-word.branch [
       | else-digits-word-via-then-digits-word+else-is_numeral w ↦ number_other c.args.word.now (sym w.is_numeral.ensures ∙ w.if-is_numeral.false)
       | else-digits-word-via-else-digits-word w ↦

@@ -1,0 +1,2 @@
+-- Words of a line.
+pub mod Words
