@@ -10,7 +10,7 @@ use lib.Seq.{set_out}
 use Rattle.algebra.specs.Slice.{written}
 use Rattle.algebra.proofs.Slice.{written_length, written_next}
 use Rattle.output.specs.declared.Output as declared
-use Rattle.output.specs.Output.{Output, output, put_byte, put, held, Puts, PutWhole}
+use Rattle.output.specs.Output.{Output, output, put_byte, put, Puts, PutsInto, PutWhole}
 
 -- ---- one text after another
 put_append : (out : Output) (s t : List ℕ) → put out (s ++ t) ≡ put (put out s) t
@@ -19,24 +19,21 @@ put_append out [] t = refl
 put_append out (b ∷ s) t = put_append (put_byte out b) s t
 
 infixr 20 ◌then◌
-pub ◌then◌ : {s t : List ℕ} {before middle after : declared.Output} → Puts s before middle → Puts t middle after → Puts (s ++ t) before after
-◌then◌ {s} {t} {before} p q = record {
-  is = q.is ∙ ap (λ o. put o t) p.is ∙ sym (put_append (held before) s t);
-  same_row = q.same_row ∙ p.same_row;
-}
+pub ◌then◌ : {s t : List ℕ} {before middle after : Output} → Puts s before middle → Puts t middle after → Puts (s ++ t) before after
+◌then◌ {s} {t} {before} p q = record { is = q.is ∙ ap (λ o. put o t) p.is ∙ sym (put_append before s t) }
 
-pub nothing : {out : declared.Output} → Puts [] out out
+pub nothing : {out : Output} → Puts [] out out
 unfolding put
-nothing = record { is = refl; same_row = refl }
+nothing = record { is = refl }
 
 -- ---- one byte, where the row has a place for it and where it has none
-pub put_here : (row : List ℕ) (at b : ℕ) → at < length row → output (set row at b) (at + 1) ≡ put (output row at) (b ∷ [])
+pub put_here : (row : List ℕ) (at b : ℕ) → at < length row → Puts (b ∷ []) (output row at) (output (set row at b) (at + 1))
 unfolding put
-put_here row at b h = let within : at ≤ length row = omega arith in rw (min-eq_left within) refl
+put_here row at b h = let within : at ≤ length row = omega arith in record { is = rw (min-eq_left within) }
 
-pub put_past : (row : List ℕ) (at b : ℕ) → length row ≤ at → output row (length row + 1) ≡ put (output row at) (b ∷ [])
+pub put_past : (row : List ℕ) (at b : ℕ) → length row ≤ at → Puts (b ∷ []) (output row at) (output row (length row + 1))
 unfolding put
-put_past row at b h = rw (set_out row at b h, min-eq_right h) refl
+put_past row at b h = record { is = rw (set_out row at b h, min-eq_right h) }
 
 -- ---- from the start of a row on
 behind : (row front : List ℕ) (b : ℕ) → length front < length row
@@ -61,3 +58,12 @@ put_behind row front (b ∷ text) h =
 
 pub put_whole : PutWhole
 put_whole row text h = put_behind row [] text h
+
+-- ---- the same in the row that the code holds
+infixr 20 ◌and_then◌
+pub ◌and_then◌ : {s t : List ℕ} {before middle after : declared.Output} → PutsInto s before middle → PutsInto t middle after
+    → PutsInto (s ++ t) before after
+p and_then q = record { is_put = p.is_put then q.is_put; same_row = q.same_row ∙ p.same_row }
+
+pub nothing_put : {out : declared.Output} → PutsInto [] out out
+nothing_put = record { is_put = nothing; same_row = refl }

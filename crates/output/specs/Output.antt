@@ -20,6 +20,10 @@ unfoldable pub put : Output → List ℕ → Output
 put out [] = out
 put out (b ∷ text) = put (put_byte out b) text
 
+-- `after` is `before` with a text put into it
+pub record Puts (text : List ℕ) (before after : Output) : Type 0 where
+  pub is : after ≡ put before text
+
 -- ---- the row that the code holds, and its place
 abbrev pub held : declared.Output → Output
 held out = output out.row.now out.at
@@ -29,9 +33,9 @@ pub record StartsIn (row : MutBor (List ℕ)) (out : declared.Output) : Type 0 w
   pub is : held out ≡ output row.now 0
   pub same_row : out.row.ghost_name ≡ row.ghost_name
 
--- `after` is `before` with a text put into its row
-pub record Puts (text : List ℕ) (before after : declared.Output) : Type 0 where
-  pub is : held after ≡ put (held before) text
+-- the same row, with a text put into it
+pub record PutsInto (text : List ℕ) (before after : declared.Output) : Type 0 where
+  pub is_put : Puts text (held before) (held after)
   pub same_row : after.row.ghost_name ≡ before.row.ghost_name
 
 -- ---- what is proved of it

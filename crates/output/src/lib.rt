@@ -5,7 +5,7 @@
 
 ghost use Rattle.std.specs.Prelude.{[], ◌∷◌, ◌≡◌};
 ghost use Rattle.text.specs.Bytes.{space};
-ghost use Rattle.output.specs.Output.{Puts, StartsIn};
+ghost use Rattle.output.specs.Output.{PutsInto, StartsIn};
 
 use itoa::{Buffer, Integer};
 
@@ -24,7 +24,7 @@ impl<'a> Output<'a> {
     }
 
     pub fn put_byte(&mut self, b: u8)
-        ensures { Puts (b ∷ []) self.old self.new }
+        ensures { PutsInto (b ∷ []) self.old self.new }
     {
         if self.at < self.row.len() {
             self.row[self.at] = b;
@@ -35,7 +35,7 @@ impl<'a> Output<'a> {
     }
 
     pub fn put_bytes(&mut self, bytes: &[u8])
-        ensures { Puts bytes.now self.old self.new }
+        ensures { PutsInto bytes.now self.old self.new }
     {
         for b in bytes {
             self.put_byte(*b);
@@ -43,14 +43,14 @@ impl<'a> Output<'a> {
     }
 
     pub fn put_number<I: Integer>(&mut self, n: I)
-        ensures { Puts (I.text n) self.old self.new }
+        ensures { PutsInto (I.text n) self.old self.new }
     {
         self.put_bytes(Buffer::new().format(n).as_bytes());
     }
 
     // A space and a number: a further word of a line.
     pub fn put_next<I: Integer>(&mut self, n: I)
-        ensures { Puts (space ∷ I.text n) self.old self.new }
+        ensures { PutsInto (space ∷ I.text n) self.old self.new }
     {
         self.put_byte(b' ');
         self.put_number(n);

@@ -4,7 +4,7 @@
 
 ghost use Rattle.std.specs.Prelude.{◌≡◌, length};
 ghost use Rattle.algebra.specs.Slice.{written};
-ghost use Rattle.output.specs.Output.{Puts};
+ghost use Rattle.output.specs.Output.{PutsInto};
 ghost use Rattle.report.specs.Report.{curve_text, report_text};
 
 use compound::LentRows;
@@ -22,7 +22,7 @@ pub const TEXT_BYTES: usize = 21_504;
 
 // The table of a job's curve, or the line that refuses the job.
 fn put_curve(out: &mut Output, job: Job, weights: &[u64])
-    ensures { Puts (curve_text job weights.now) out.old out.new }
+    ensures { PutsInto (curve_text job weights.now) out.old out.new }
 {
     let mut low = [0; MOST_TOTALS];
     let mut high = [0; MOST_TOTALS];
@@ -53,7 +53,7 @@ fn put_curve(out: &mut Output, job: Job, weights: &[u64])
 
 // What the program writes on a sheet.
 fn put_report(out: &mut Output, sheet: &[u8])
-    ensures { Puts (report_text sheet.now) out.old out.new }
+    ensures { PutsInto (report_text sheet.now) out.old out.new }
 {
     let mut row = [0; MOST_SEVERITIES];
     match sheet::reader::read_text(sheet, MOST_SEVERITIES, &mut row) {

@@ -8,9 +8,9 @@ use Rattle.std.specs.Fmt.{signed_decimal}
 use Rattle.text.specs.Bytes.{space}
 use Rattle.text.specs.Numbers.{decimal}
 use Rattle.output.specs.declared.Output.{Output}
-use Rattle.output.specs.Output.{Puts}
+use Rattle.output.specs.Output.{PutsInto}
 use Rattle.output.proofs.Printed.{decimal_printed}
 
-pub further : {before after : Output} (z : ℤ) → SFits w64 z → Puts (space ∷ signed_decimal (to_z w64 (of_z w64 z))) before after
-    → Puts (space ∷ decimal z) before after
+pub further : {before after : Output} (z : ℤ) → SFits w64 z → PutsInto (space ∷ signed_decimal (to_z w64 (of_z w64 z))) before after
+    → PutsInto (space ∷ decimal z) before after
 further z f p = rw (to_z-of_z f, decimal_printed z f.sfits) at p

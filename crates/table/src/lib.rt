@@ -4,7 +4,7 @@
 
 ghost use Rattle.std.specs.Prelude.{◌≡◌, ◌<◌};
 ghost use Rattle.model.specs.Answer.{refused};
-ghost use Rattle.output.specs.Output.{Puts};
+ghost use Rattle.output.specs.Output.{PutsInto};
 ghost use Rattle.table.specs.Lines.{LongEnough, exact_letter, refusal_line};
 
 use model::refusal::{Numbered, Refusal};
@@ -33,7 +33,7 @@ impl Table<'_> {
 
     fn put_total(&self, out: &mut Output, total: usize)
         requires { total < self.now.totals }
-        ensures { Puts (line_at self.now total) out.old out.new }
+        ensures { PutsInto (line_at self.now total) out.old out.new }
     {
         out.put_number(total);
         out.put_next(self.low[total]);
@@ -46,7 +46,7 @@ impl Table<'_> {
 
     // The heading, and a line for each total. Four rows zipped would be a tuple in a tuple in a tuple, and no plainer.
     pub fn put(&self, out: &mut Output)
-        ensures { Puts (text_of self.now) out.old out.new }
+        ensures { PutsInto (text_of self.now) out.old out.new }
     {
         out.put_bytes(b"TOTAL LOW HIGH BOUND EXACT\n");
         for total in 0..self.totals {
@@ -56,7 +56,7 @@ impl Table<'_> {
 }
 
 pub fn put_refusal<R: Numbered>(out: &mut Output, refusal: Refusal<R>)
-    ensures { Puts (refusal_line (refused (R.number_of refusal.reason) refusal.place))
+    ensures { PutsInto (refusal_line (refused (R.number_of refusal.reason) refusal.place))
         out.old out.new }
 {
     out.put_bytes(b"REFUSED ");

@@ -12,7 +12,7 @@ whole : (c : goal.After-put_report)
     ≡ output (written (report_text c.args.sheet.now) c.args.out.now) (length (report_text c.args.sheet.now))
 whole c =
     let text = report_text c.args.sheet.now in
-    c.put_report.ensures.is ∙ ap (λ o. put o text) c.new-text.ensures.is ∙ put_whole c.args.out.now text (omega (arith, text_fits c.args.sheet.now))
+    c.put_report.ensures.is_put.is ∙ ap (λ o. put o text) c.new-text.ensures.is ∙ put_whole c.args.out.now text (omega (arith, text_fits c.args.sheet.now))
 
 pub returns-clause-count : goal.returns-clause-count
 returns-clause-count c = ap (λ (o : Output). o.place) (whole c)

@@ -5,7 +5,7 @@ use mir.Val.{SFits}
 use mir.Facts.{to_z-of_z}
 use Rattle.text.specs.Lines.{spaced}
 use Rattle.text.specs.Numbers.{decimal}
-use Rattle.output.proofs.Put.{◌then◌, nothing}
+use Rattle.output.proofs.Put.{◌and_then◌, nothing_put}
 use Rattle.output.proofs.Printed.{digits_printed}
 use Rattle.table.specs.Lines.{at}
 use Rattle.table.proofs.Words.{further}
@@ -21,9 +21,9 @@ returns c =
     let bound : SFits w64 (at rows.bound.now x) = record { sfits = omega arith } in
     let mark : SFits w64 (at rows.mark.now x) = record { sfits = omega arith } in
     ((rw (digits_printed x (omega arith)) at c.put_number.ensures)
-    then ((further _ low c.put_next.ensures
-    then further _ high c.put_next-2.ensures
-    then further _ bound c.put_next-3.ensures
-    then nothing)
-    then (c.put_byte.ensures then (rw (c.letter.ensures, to_z-of_z mark) at c.put_byte-2.ensures))))
-    then c.put_byte-3.ensures
+    and_then ((further _ low c.put_next.ensures
+    and_then further _ high c.put_next-2.ensures
+    and_then further _ bound c.put_next-3.ensures
+    and_then nothing_put)
+    and_then (c.put_byte.ensures and_then (rw (c.letter.ensures, to_z-of_z mark) at c.put_byte-2.ensures))))
+    and_then c.put_byte-3.ensures
