@@ -10,8 +10,8 @@ use lib.IntN.{ℤ, pos}
 use Rattle.text.specs.Bytes.{line_end, space}
 use Rattle.text.specs.Lines.{before, after, has}
 use Rattle.text.specs.Numbers.{number}
-use Rattle.text.specs.Leading.{with_rest, number_line}
-use Rattle.text.proofs.Read.{tells_line}
+use Rattle.text.specs.Leading.{with_rest, line_and_rest}
+use Rattle.text.proofs.Read.{tells_rest}
 use Rattle.lines.specs.Keywords.{W}
 use Rattle.lines.specs.Line.{numbers, line}
 use Rattle.lines.specs.Parts.{parts, wrong, after_keyword, fields, weight_line}
@@ -33,10 +33,10 @@ good_weight [] e = cc
 good_weight (x ∷ []) e = cc
 good_weight (x ∷ y ∷ s) {w} {rest} e = by (eqb x 0x57) refl (eqb y space) refl e
   where
-    by : (p : Bool) → eqb x 0x57 ≡ p → (q : Bool) → eqb y space ≡ q → cond (p && q) (number_line s) none ≡ some (pos w, rest)
+    by : (p : Bool) → eqb x 0x57 ≡ p → (q : Bool) → eqb y space ≡ q → cond (p && q) (line_and_rest s) none ≡ some (pos w, rest)
         → line false W 1 (x ∷ y ∷ s) ≡ numbers (pos w ∷ []) rest
     by true k true h e =
-        let l = tells_line s (pos w) rest e in
+        let l = tells_rest s (pos w) rest e in
         (λ i. line false W 1 (eqb-true x 0x57 k i ∷ eqb-true y space h i ∷ s))
         ∙ after_keyword_lem s l.ends
         ∙ field_number false (before line_end s) (after line_end s) (pos w) l.is_number
@@ -50,8 +50,8 @@ clash e = cc
 same_part : {part next part' next' : List ℕ} → parts part next ≡ parts part' next' → part ≡ part'
 same_part e = cc
 
-none_told : (s : List ℕ) → has line_end s ≡ true → number_line s ≡ none → number false (before line_end s) ≡ none
-unfolding number_line
+none_told : (s : List ℕ) → has line_end s ≡ true → line_and_rest s ≡ none → number false (before line_end s) ≡ none
+unfolding line_and_rest
 none_told s h e = by (number false (before line_end s)) (simp (h) at e)
   where
     by : (n : Option ℤ) → with_rest n (after line_end s) ≡ none → n ≡ none

@@ -5,7 +5,7 @@ use Rattle.std.proofs.Math.Option.{Option, none}
 use Rattle.algebra.specs.Table.{same_list}
 use Rattle.text.specs.Bytes.{line_end, space}
 use Rattle.text.specs.Lines.{before, after, has, words}
-use Rattle.text.specs.Leading.{number_line}
+use Rattle.text.specs.Leading.{line_and_rest}
 use Rattle.lines.specs.Line.{Line, numbers, faulty, all_numbers, of_numbers}
 use Rattle.lines.specs.declared.Reason.{Reason}
 use Rattle.lines.specs.Reason.{number_of}
@@ -42,7 +42,7 @@ last_of (Err reason) rest = faulty (number_of reason)
 abbrev pub weight_line : List ℕ → Option (ℤ × List ℕ)
 weight_line [] = none
 weight_line (x ∷ []) = none
-weight_line (x ∷ y ∷ s) = cond (eqb x 0x57 && eqb y space) (number_line s) none
+weight_line (x ∷ y ∷ s) = cond (eqb x 0x57 && eqb y space) (line_and_rest s) none
 
 abbrev pub one_of : Result (ℕ × Bor (List ℕ)) Reason → Line
 one_of (Ok (n, rest)) = numbers (pos n ∷ []) rest.now

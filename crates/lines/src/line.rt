@@ -1,11 +1,12 @@
 // One line: a keyword, and one number or two.
 
-ghost use Rattle.std.specs.Prelude.{◌≡◌, false, List, ℕ};
+ghost use Rattle.std.specs.Prelude.{◌≡◌, false, List, ℕ, IfOk, IfSome};
 ghost use Rattle.lines.specs.Keywords.{W};
 ghost use Rattle.lines.specs.Line.{line, faulty};
 ghost use Rattle.lines.specs.Parts.{after_keyword, head_of, fields, last_of, weight_line, one_of, two_of};
 ghost use Rattle.lines.specs.Reason.{number_of};
 ghost use Rattle.std.proofs.Math.Option.{none};
+ghost use Rattle.text.specs.Lines.{EndOf};
 ghost use Rattle.text.specs.Leading.{line_found};
 
 use super::Reason;
@@ -15,7 +16,8 @@ use text::numbers::{number, number_line};
 
 // The numbers of a line, after the space that ends its keyword, and the bytes after the line.
 fn read_keyword<'s>(rest: &'s [u8], keyword: &[u8]) -> Result<(&'s [u8], &'s [u8]), Reason>
-    ensures { head_of result ≡ after_keyword keyword.now rest.now }
+    ensures parsed { head_of result ≡ after_keyword keyword.now rest.now }
+    ensures place { IfOk result (λ p. EndOf rest.entry p.1) }
 {
     let (line, next) = split_once(rest, b'\n').ok_or(Reason::Missing)?;
     let (word, part) = split_once(line, b' ').ok_or(Reason::Form)?;
@@ -40,7 +42,8 @@ fn last_number(part: &[u8], signs: bool) -> Result<i64, Reason>
 
 // A line `KEYWORD n`: the number, which has no sign, and the bytes after the line.
 pub fn read_one<'s>(rest: &'s [u8], keyword: &[u8]) -> Result<(u64, &'s [u8]), Reason>
-    ensures { one_of result ≡ line false keyword.now 1 rest.now }
+    ensures parsed { one_of result ≡ line false keyword.now 1 rest.now }
+    ensures place { IfOk result (λ p. EndOf rest.entry p.1) }
 {
     let (part, next) = read_keyword(rest, keyword)?;
     let z = last_number(part, false)?;
@@ -49,7 +52,8 @@ pub fn read_one<'s>(rest: &'s [u8], keyword: &[u8]) -> Result<(u64, &'s [u8]), R
 
 // The number of a good line `W n`, read in one pass over the line, and the bytes after the line.
 fn good_weight(rest: &[u8]) -> Option<(u64, &[u8])>
-    ensures { line_found result ≡ weight_line rest.now }
+    ensures found { line_found result ≡ weight_line rest.now }
+    ensures place { IfSome result (λ p. EndOf rest.entry p.1) }
 {
     let [b'W', b' ', numbers @ ..] = rest else {
         return None;
@@ -71,7 +75,8 @@ fn weight_refusal(rest: &[u8]) -> Reason
 
 // A line `W n`, of which a sheet may have 500.
 pub fn read_weight(rest: &[u8]) -> Result<(u64, &[u8]), Reason>
-    ensures { one_of result ≡ line false W 1 rest.now }
+    ensures parsed { one_of result ≡ line false W 1 rest.now }
+    ensures place { IfOk result (λ p. EndOf rest.entry p.1) }
 {
     match good_weight(rest) {
         Some(read) => Ok(read),
@@ -86,7 +91,8 @@ pub fn read_two<'s>(
     keyword: &[u8],
     signs: bool,
 ) -> Result<(i64, i64, &'s [u8]), Reason>
-    ensures { two_of result ≡ line signs keyword.now 2 rest.now }
+    ensures parsed { two_of result ≡ line signs keyword.now 2 rest.now }
+    ensures place { IfOk result (λ p. EndOf rest.entry p.2) }
 {
     let (part, next) = read_keyword(rest, keyword)?;
     let (first, last) = split_once(part, b' ').ok_or(Reason::Form)?;

@@ -3,15 +3,17 @@
 use mathlib.Core.Path.{◌≡◌, refl, sym, ap, subst, ◌∙◌}
 use mathlib.Core.Bool.{Bool, true, false, cond, true≢false, and-eq-true_iff}
 use mathlib.Core.List.{List, [], ◌∷◌, ◌++◌}
-use mathlib.Core.Option.{none, some}
+use mathlib.Core.Option.{Option, none, some, some-injective}
 use Prim.Native.Nat.{ℕ, zero, suc, ◌+◌, ◌-◌, ◌*◌, ◌^◌, ◌≤◌, ◌<◌}
 use native.Mathlib.Numerals.{add-one}
 use native.Mathlib.Omega.{arith}
 use borrow.Author.Tests.{eqb-true, ne_eqb, leb-true}
 use lib.Dec.{eqb}
-use lib.IntN.{pos}
-use lib.ListN.{length, take, drop, get_or, take-append-drop}
+use lib.IntN.{ℤ, pos}
+use lib.ListN.{length, take, drop, get_or, length-append, take-append-drop}
 use lib.Seq.{take_all, take-suc, split_at, drop_at}
+use Rattle.std.proofs.Common.{Bor, Some, None}
+use Rattle.std.specs.Prelude as P
 use Rattle.std.specs.List.{prefix_len}
 use Rattle.std.proofs.lemmas.List.{length-take}
 use Rattle.std.proofs.lemmas.List.Sums.{take_while-cons}
@@ -20,7 +22,7 @@ use Rattle.text.specs.Bytes.{line_end}
 use Rattle.text.specs.Lines.{before, after, has}
 use Rattle.text.specs.Numbers.{zero_digit, is_digit, starts_with, is_numeral, value_from, value, number}
 use Rattle.text.specs.declared.numbers.Digits.{Digits}
-use Rattle.text.specs.Leading.{leading_digits, digits_of, with_rest, number_line}
+use Rattle.text.specs.Leading.{leading_digits, digits_of, with_place, number_line, with_rest, line_and_rest, line_found, place_found}
 use Rattle.text.proofs.Words.{split_at_first, first_after}
 use Rattle.text.proofs.Decimal.{value_small, value_append}
 use Rattle.text.proofs.Read.{starts_split, numeral_tests, number_numeral, number_other}
@@ -166,16 +168,16 @@ module _ (s : List ℕ) (found : Digits) (e : found ≡ digits_of (leading_digit
       (ap (has line_end) text ∙ first.0, ap (before line_end) text ∙ first.1, ap (after line_end) text ∙ first.2)
 
   pub line_decides : starts_with line_end (drop found.count s) ≡ true → (t : Bool) → is_numeral (take found.count s) ≡ t
-      → number_line s ≡ cond t (some (pos found.value, drop 1 (drop found.count s))) none
-  unfolding number_line
+      → line_and_rest s ≡ cond t (some (pos found.value, drop 1 (drop found.count s))) none
+  unfolding line_and_rest
   line_decides ends true n =
       let line = line_front ends in
       let stands = ap value front ∙ sym stand in
       rw (line.0, line.1, line.2, number_numeral (take found.count s) n) (λ i. some (pos (stands i), drop 1 (drop found.count s)))
   line_decides ends false n = let line = line_front ends in rw (line.0, line.1, number_other (take found.count s) n)
 
-  pub line_other : starts_with line_end (drop found.count s) ≡ false → number_line s ≡ none
-  unfolding number_line
+  pub line_other : starts_with line_end (drop found.count s) ≡ false → line_and_rest s ≡ none
+  unfolding line_and_rest
   line_other other = by (has line_end s) refl (is_numeral line) refl
     where
       line : List ℕ
@@ -195,3 +197,28 @@ module _ (s : List ℕ) (found : Digits) (e : found ≡ digits_of (leading_digit
       by false t q n = refl
       by true t false n = rw (number_other line n)
       by true t true n = absurd (true≢false (sym (ap (starts_with line_end) (end t n)) ∙ other))
+
+-- ---- the place of the next line
+-- as the bytes after the line tell it
+module _ (s : List ℕ) where
+  rest_length : has line_end s ≡ true → length s - length (after line_end s) ≡ length (before line_end s) + 1
+  rest_length e =
+      let whole = ap length (split_at_first line_end s e) ∙ length-append (before line_end s) (line_end ∷ after line_end s) in
+      omega (arith, whole)
+
+  pub next_place : (read : P.Option (ℕ × Bor (List ℕ))) → line_found read ≡ line_and_rest s → place_found s read ≡ number_line s
+  unfolding number_line line_and_rest
+  next_place read says = by (has line_end s) refl (number false (before line_end s)) read says
+    where
+      by : (t : Bool) → has line_end s ≡ t → (n : Option ℤ) (read : P.Option (ℕ × Bor (List ℕ)))
+          → line_found read ≡ cond t (with_rest n (after line_end s)) none
+          → place_found s read ≡ cond t (with_place n (length (before line_end s) + 1)) none
+      by false e n None h = refl
+      by false e n (Some p) h = cc
+      by true e none None h = refl
+      by true e none (Some p) h = cc
+      by true e (some z) None h = cc
+      by true e (some z) (Some (n, rest)) h =
+          let both = some-injective _ _ h in
+          ap (λ (l : List ℕ). some (pos n, length s - length l)) (ap (λ (q : ℤ × List ℕ). q.1) both)
+          ∙ (λ i. some (ap (λ (q : ℤ × List ℕ). q.0) both i, rest_length e i))

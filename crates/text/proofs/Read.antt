@@ -3,7 +3,7 @@ use mathlib.Core.Path.{◌≡◌, refl, sym, ap, ◌∙◌}
 use mathlib.Core.Bool.{Bool, true, false, ◌&&◌, ◌||◌, not, cond, and-false, and-true, and-eq-true_iff, true≢false}
 use mathlib.Core.List.{List, [], ◌∷◌}
 use mathlib.Core.Option.{Option, none, some, some-injective, none-ne-some}
-use Prim.Native.Nat.{ℕ, ◌≤◌}
+use Prim.Native.Nat.{ℕ, ◌+◌, ◌≤◌}
 use borrow.Author.Tests.{eq-eqb, ne_eqb, leb-true, eqb-true}
 use lib.Dec.{leb, eqb}
 use lib.IntN.{ℤ, pos, neg_ℤ}
@@ -16,7 +16,7 @@ use Rattle.algebra.specs.Table.{every}
 use Rattle.text.specs.Bytes.{line_end}
 use Rattle.text.specs.Lines.{before, after, has}
 use Rattle.text.specs.Numbers.{zero_digit, is_digit, minus, starts_with, is_numeral, value, negative_of, number, found}
-use Rattle.text.specs.Leading.{with_rest, number_line}
+use Rattle.text.specs.Leading.{with_place, number_line, with_rest, line_and_rest}
 
 -- ---- the first byte
 -- what `strip_prefix` tests
@@ -108,17 +108,35 @@ module _ {E : Type 0} (e : E) {told : Option ℤ} where
 
 -- ---- a first line that is a number
 -- what is told of it
-pub record TellsLine (s : List ℕ) (z : ℤ) (rest : List ℕ) : Type 0 where
+pub record TellsLine (s : List ℕ) (z : ℤ) (next : ℕ) : Type 0 where
+  pub ends : has line_end s ≡ true
+  pub is_number : number false (before line_end s) ≡ some z
+  pub next_line : next ≡ length (before line_end s) + 1
+
+pub tells_line : (s : List ℕ) (z : ℤ) (next : ℕ) → number_line s ≡ some (z, next) → TellsLine s z next
+unfolding number_line
+tells_line s z next e = by (has line_end s) refl (number false (before line_end s)) refl e
+  where
+    by : (p : Bool) → has line_end s ≡ p → (n : Option ℤ) → number false (before line_end s) ≡ n
+        → cond p (with_place n (length (before line_end s) + 1)) none ≡ some (z, next) → TellsLine s z next
+    by false t n m h = absurd (none-ne-some (z, next) h)
+    by true t none m h = absurd (none-ne-some (z, next) h)
+    by true t (some y) m h =
+        let both = some-injective _ _ h in
+        record { ends = t; is_number = m ∙ ap (λ (q : ℤ × ℕ). some q.0) both; next_line = sym (ap (λ (q : ℤ × ℕ). q.1) both) }
+
+-- the same with the bytes after the line
+pub record TellsRest (s : List ℕ) (z : ℤ) (rest : List ℕ) : Type 0 where
   pub ends : has line_end s ≡ true
   pub is_number : number false (before line_end s) ≡ some z
   pub others : after line_end s ≡ rest
 
-pub tells_line : (s : List ℕ) (z : ℤ) (rest : List ℕ) → number_line s ≡ some (z, rest) → TellsLine s z rest
-unfolding number_line
-tells_line s z rest e = by (has line_end s) refl (number false (before line_end s)) refl e
+pub tells_rest : (s : List ℕ) (z : ℤ) (rest : List ℕ) → line_and_rest s ≡ some (z, rest) → TellsRest s z rest
+unfolding line_and_rest
+tells_rest s z rest e = by (has line_end s) refl (number false (before line_end s)) refl e
   where
     by : (p : Bool) → has line_end s ≡ p → (n : Option ℤ) → number false (before line_end s) ≡ n
-        → cond p (with_rest n (after line_end s)) none ≡ some (z, rest) → TellsLine s z rest
+        → cond p (with_rest n (after line_end s)) none ≡ some (z, rest) → TellsRest s z rest
     by false t n m h = absurd (none-ne-some (z, rest) h)
     by true t none m h = absurd (none-ne-some (z, rest) h)
     by true t (some y) m h =

@@ -120,11 +120,8 @@ module _ (b : ℕ) (s : List ℕ) (k : ℕ) (e : k ≡ length (before b s)) wher
   pub around_none : length s ≤ k → around b s ≡ none
   around_none h = rw (until_end h)
 
-  pub around_some : (x : ℕ) (rest : List ℕ) → drop k s ≡ x ∷ rest → k < length s → around b s ≡ some (take k s, rest)
-  around_some x rest split h = rw (until_found h) (λ i. some (sym until_before i, (sym until_after ∙ others) i))
-    where
-      others : drop (k + 1) s ≡ rest
-      others = sym (drop-drop 1 k s) ∙ ap (drop 1) split
+  pub around_some : k < length s → around b s ≡ some (take k s, drop 1 (drop k s))
+  around_some h = rw (until_found h) (λ i. some (sym until_before i, (sym until_after ∙ sym (drop-drop 1 k s)) i))
 
 -- what is told of a text that is split at its first b
 pub record Around (b : ℕ) (s front rest : List ℕ) : Type 0 where

@@ -1,5 +1,5 @@
 -- Lines and words: "Each line ends with byte 0A hexadecimal. A line's words are its pieces between single spaces."
-use Rattle.std.specs.Prelude.{◌≡◌, Bool, true, false, not, cond, List, [], ◌∷◌, ◌++◌, ℕ, zero, suc, ◌+◌, ◌-◌, eqb, length, drop}
+use Rattle.std.specs.Prelude.{◌≡◌, Bool, true, false, not, cond, List, [], ◌∷◌, ◌++◌, ℕ, zero, suc, ◌+◌, ◌-◌, ◌≤◌, eqb, length, drop}
 use Rattle.std.specs.Prelude.{Some, None}
 use Rattle.std.specs.Prelude as P
 use Rattle.std.specs.Borrow.{Bor}
@@ -29,6 +29,11 @@ around b s = cond (has b s) (some (before b s, after b s)) none
 abbrev pub around_found : P.Option (Bor (List ℕ) × Bor (List ℕ)) → Option (List ℕ × List ℕ)
 around_found (Some (front, rest)) = some (front.now, rest.now)
 around_found None = none
+
+-- rest stands in memory where the last bytes of s do, and not elsewhere, where the same bytes may stand too
+pub record EndOf (s rest : Bor (List ℕ)) : Type 0 where
+  pub within : length rest.now ≤ length s.now
+  pub place : rest.ref_ptr ≡ (s.ref_ptr.0, (length s.now - length rest.now) + s.ref_ptr.1)
 
 -- ---- lines
 -- what follows the first n line ends

@@ -1,9 +1,10 @@
 // The numbers that words are, and that lines are, read from their own bytes.
 
-ghost use Rattle.std.specs.Prelude.{◌≡◌, true, false, ◌≤◌, length};
+ghost use Rattle.std.specs.Prelude.{◌≡◌, true, false, ◌≤◌, length, IfSome};
 ghost use Rattle.algebra.specs.Table.{every};
 ghost use Rattle.text.specs.Numbers.{is_digit, is_numeral, negative_of, number as word_number, found};
-ghost use Rattle.text.specs.Leading.{leading_digits, digits_of, number_line, line_found};
+ghost use Rattle.text.specs.Lines.{EndOf};
+ghost use Rattle.text.specs.Leading.{leading_digits, digits_of, number_line, line_and_rest, line_found, place_found};
 
 // So many digits, and what they stand for: the value alone does not tell how many.
 #[derive(Clone, Copy)]
@@ -46,14 +47,17 @@ fn unsigned(word: &[u8]) -> Option<i64>
     }
 }
 
-// The number without a sign that the first line of `s` is, in one pass over the line, and the bytes after the line.
+// The number without a sign that the first line of `s` is, in one pass over the line, and the bytes after the line. These are cut out
+// of `s`, since the kit does not tell where in memory the slice stands that `strip_prefix` answers.
 pub fn number_line(s: &[u8]) -> Option<(u64, &[u8])>
-    ensures { line_found result ≡ number_line s.now }
+    ensures found { line_found result ≡ line_and_rest s.now }
+    ensures next_line { place_found s.now result ≡ number_line s.now }
+    ensures place { IfSome result (λ p. EndOf s.entry p.1) }
 {
     let digits = leading_digits(s);
     let (line, rest) = s.split_at(digits.count);
-    let next = rest.strip_prefix(b"\n")?;
-    is_numeral(line).then_some((digits.value, next))
+    rest.strip_prefix(b"\n")?;
+    is_numeral(line).then_some((digits.value, &s[digits.count + 1..]))
 }
 
 // The number that `digits` are after a minus sign: zero has none.

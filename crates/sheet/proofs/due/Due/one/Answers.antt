@@ -6,4 +6,4 @@ use Rattle.sheet.proofs.due.Due.one.Goals as goal
 
 pub go_on-requires : goal.go_on-requires
 go_on-requires c =
-    shorter (good_one c.args.keyword.now c.args.self.now.rest.now c.read_one.ensures (read_ok _ _ _ (sym c.placed.ensures ∙ c.in_ok-n.was)))
+    shorter (good_one c.args.keyword.now c.args.self.now.rest.now c.read_one.ensures.parsed (read_ok _ _ _ (sym c.placed.ensures ∙ c.in_ok-n.was)))

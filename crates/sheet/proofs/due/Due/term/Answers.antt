@@ -8,4 +8,4 @@ use Rattle.sheet.proofs.due.Due.term.Goals as goal
 
 pub go_on-requires : goal.go_on-requires
 go_on-requires c =
-    shorter (good_two true TERM c.args.self.now.rest.now c.read_two.ensures (read_ok _ _ _ (sym c.placed.ensures ∙ c.in_ok-a.was)))
+    shorter (good_two true TERM c.args.self.now.rest.now c.read_two.ensures.parsed (read_ok _ _ _ (sym c.placed.ensures ∙ c.in_ok-a.was)))

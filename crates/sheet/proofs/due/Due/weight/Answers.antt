@@ -7,4 +7,4 @@ use Rattle.sheet.proofs.due.Due.weight.Goals as goal
 
 pub go_on-requires : goal.go_on-requires
 go_on-requires c =
-    shorter (good_one W c.args.self.now.rest.now c.read_weight.ensures (read_ok _ _ _ (sym c.placed.ensures ∙ c.in_ok-w.was)))
+    shorter (good_one W c.args.self.now.rest.now c.read_weight.ensures.parsed (read_ok _ _ _ (sym c.placed.ensures ∙ c.in_ok-w.was)))
