@@ -1,6 +1,5 @@
 -- Proofs that the functions of the crate share, bottom up: the checks, what the call returns, what an acceptance says, and what weight 0 at
 -- severity 0 leaves as it was.
-pub mod Capped
 pub mod WrongTerm
 pub mod Call
 pub mod Returned

@@ -52,13 +52,18 @@ fn capped_sum(total: u64, weight: u64) -> u64
     total.saturating_add(weight).min(WEIGHT_CAP)
 }
 
-// The sum of a row of weights, likewise.
+// The sum of a row of weights, likewise: the weights behind the one at which it reaches the cap are not read.
 fn total_weight(weights: &[u64]) -> u64
     ensures { result ≡ min (total_weight weights.now) 1001 }
 {
-    weights
-        .iter()
-        .fold(0, |total, &weight| capped_sum(total, weight))
+    let mut total = 0;
+    for &weight in weights {
+        total = capped_sum(total, weight);
+        if total == WEIGHT_CAP {
+            return WEIGHT_CAP;
+        }
+    }
+    total
 }
 
 // D W - A w(0), and 0 where that is below; `total` is W.

@@ -23,11 +23,9 @@ use Rattle.enclosure.specs.Term.{Small, TermRoom, line_factor, term_sums}
 use Rattle.enclosure.proofs.Scaled.{plus_assoc, plus_none}
 use Rattle.enclosure.proofs.Sizes.{term_size, quotient_fits}
 use Rattle.rows.specs.Curve.{Rows, severities, factor, sums_zero, sums_next, sums_at}
-use Rattle.rows.specs.declared.layout.Rows.{Rows as LentRows}
 use Rattle.rows.specs.Layout.{Lent, LongEnough, stored}
-use Rattle.rows.specs.Lent.{held}
 use Rattle.rows.specs.Limits.{LawLimits, TableLimits, Limits}
-use Rattle.rows.specs.Progress.{Ready, term_factor, weight_alone}
+use Rattle.rows.specs.Progress.{ReadyAt, term_factor, weight_alone}
 use Rattle.rows.proofs.Stored.{Reachable}
 
 -- ---- what a total is computed from
@@ -46,8 +44,8 @@ pub record ReadyIn (law : Law) (weights : List ℕ) (places x : ℕ) (lent : Len
   pub total_below : x < places
 
 -- by the limits of the job and what the functions ask for
-pub ready_in : {job : Job} {weights : List ℕ} {x : ℕ} {lent : LentRows} → Limits job weights → Ready job.law.order x lent
-    → ReadyIn job.law weights lent.places x (held lent)
+pub ready_in : {job : Job} {weights : List ℕ} {x places : ℕ} {lent : Lent} → Limits job weights → ReadyAt job.law.order x places lent
+    → ReadyIn job.law weights places x lent
 ready_in limits ready = record {
   basis = record {
     law_limits = limits.law;

@@ -23,7 +23,7 @@ use Rattle.rows.specs.Curve.{Rows, entry_at, curve_rows}
 use Rattle.rows.specs.Faults.{any_row, first_fault, range_fault}
 use Rattle.rows.specs.Exact.{Marks, lows, highs, exact_at, curve_marks}
 use Rattle.rows.specs.Layout.{Lent, work_places, stored, stored_numbers, stored_marks}
-use Rattle.rows.specs.Lent.{entries_in, marks_in, EntryRoom}
+use Rattle.rows.specs.Lent.{held, entries_in, marks_in, EntryRoomIn}
 
 -- ---- the divisors
 abbrev pub divisors_of : Job → List ℕ → Divisors
@@ -39,10 +39,13 @@ abbrev pub weight_alone : Factor
 weight_alone = record { constant = pos 1; slope = pos 0 }
 
 -- the lent rows have room for the entries of total x, and no entry at an earlier total has a fault
-pub record Ready (order x : ℕ) (lent : LentRows) : Type 0 where
-  pub room : EntryRoom lent
-  pub total_below : x < lent.places
-  pub earlier : (j z : ℕ) → j < order → z < x → Small (entries_in lent j z)
+pub record ReadyAt (order x places : ℕ) (lent : Lent) : Type 0 where
+  pub room : EntryRoomIn places lent
+  pub total_below : x < places
+  pub earlier : (j z : ℕ) → j < order → z < x → Small (stored places lent j z)
+
+abbrev pub Ready : (order x : ℕ) → LentRows → Type 0
+Ready order x lent = ReadyAt order x lent.places (held lent)
 
 -- ---- totals one after the other
 -- what the faults of a total's rows come to: that of a low or high goes before that of a bound

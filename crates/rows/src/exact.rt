@@ -1,63 +1,42 @@
 // Which entries of one total are exact, from the rows and their marks at earlier totals.
 
-ghost use Rattle.std.specs.Prelude.{◌≡◌, ◌&&◌, ◌≤◌, ◌<◌};
-ghost use Rattle.enclosure.specs.Term.{line_factor};
-ghost use Rattle.enclosure.specs.Run.{FactorSmall};
-ghost use Rattle.enclosure.specs.Mark.{term_exact};
-ghost use Rattle.enclosure.specs.Known.{SettledRow};
+ghost use Rattle.std.specs.Prelude.{◌≡◌, ◌&&◌, ◌<◌};
 ghost use Rattle.rows.specs.Exact.{lows, highs, used_zero, used_at};
-ghost use Rattle.rows.specs.Lent.{entries_in, marks_in, MarkedRoom};
-ghost use Rattle.rows.specs.Progress.{SettledIn};
+ghost use Rattle.rows.specs.Lent.{shared_entries, shared_marks, MarkedRoom};
+ghost use Rattle.rows.specs.Progress.{SettledRows};
 
-use super::layout::Rows;
+use super::layout::SharedRows;
 use super::total::{Recursion, WEIGHT_ALONE};
-use enclosure::marks::{Settled, are_exact};
-use enclosure::term::Factor;
+use enclosure::marks::Settled;
 
 impl Recursion<'_> {
-    // Whether all entries of row `row` leave a sum exact that one term uses. No two of the parameters go together in every call.
-    fn is_row_exact(
-        &self,
-        rows: &Rows<'_>,
-        factor: Factor,
-        settled: Settled,
-        x: usize,
-        row: usize,
-    ) -> bool
-        requires room { MarkedRoom rows.now × (x < rows.now.places) × (row ≤ 3) × FactorSmall factor }
-        requires settled_row { SettledRow settled x (lows (entries_in rows.now) row) (highs (entries_in rows.now) row)
-            (marks_in rows.now row) }
-        ensures { result ≡ term_exact (line_factor factor self.now.weights.now) x self.now.weights.now
-            (lows (entries_in rows.now) row) (highs (entries_in rows.now) row) (marks_in rows.now row) }
-    {
-        are_exact(factor, settled, x, self.weights, &rows.marked_row(row))
-    }
-
     // Whether all entries leave the sums exact that row 0 uses, term by term.
-    fn are_terms_exact(&self, rows: &Rows<'_>, settled: Settled, x: usize) -> bool
+    fn are_terms_exact(&self, rows: &SharedRows<'_>, settled: Settled, x: usize) -> bool
         requires room { MarkedRoom rows.now × (x < rows.now.places) }
-        requires settled_rows { SettledIn settled self.now.job.law.order x rows.now }
-        ensures { result ≡ used_zero self.now.job.law self.now.weights.now (lows (entries_in rows.now)) (highs (entries_in rows.now))
-            (marks_in rows.now) x }
+        requires settled_rows { SettledRows settled self.now.job.law.order x
+            (lows (shared_entries rows.now)) (highs (shared_entries rows.now)) (shared_marks rows.now) }
+        ensures { result ≡ used_zero self.now.job.law self.now.weights.now
+            (lows (shared_entries rows.now)) (highs (shared_entries rows.now)) (shared_marks rows.now) x }
     {
         let order = self.job.law.order as usize;
-        (0..order).all(|i| self.is_row_exact(rows, self.term_factor(x, i), settled, x, i))
+        (0..order).all(|i| rows.is_row_exact(self.term_factor(x, i), settled, x, self.weights, i))
     }
 
     // Whether the entry of row `row` is exact; `divided` says that its sums were divided without remainder. Only then are the entries
     // looked at that it uses. No two of the parameters go together in every call, and the flag has no value beside it.
     pub fn is_exact(
         &self,
-        rows: &Rows<'_>,
+        rows: &SharedRows<'_>,
         divided: bool,
         settled: Settled,
         x: usize,
         row: usize,
     ) -> bool
         requires room { MarkedRoom rows.now × (x < rows.now.places) × (row < self.now.job.law.order) }
-        requires settled_rows { SettledIn settled self.now.job.law.order x rows.now }
-        ensures { result ≡ (divided && used_at self.now.job.law self.now.weights.now (lows (entries_in rows.now))
-            (highs (entries_in rows.now)) (marks_in rows.now) row x) }
+        requires settled_rows { SettledRows settled self.now.job.law.order x
+            (lows (shared_entries rows.now)) (highs (shared_entries rows.now)) (shared_marks rows.now) }
+        ensures { result ≡ (divided && used_at self.now.job.law self.now.weights.now (lows (shared_entries rows.now))
+            (highs (shared_entries rows.now)) (shared_marks rows.now) row x) }
     {
         if !divided {
             return false;
@@ -65,6 +44,6 @@ impl Recursion<'_> {
         if row == 0 {
             return self.are_terms_exact(rows, settled, x);
         }
-        self.is_row_exact(rows, WEIGHT_ALONE, settled, x, row - 1)
+        rows.is_row_exact(WEIGHT_ALONE, settled, x, self.weights, row - 1)
     }
 }

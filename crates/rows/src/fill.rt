@@ -64,8 +64,9 @@ impl Recursion<'_> {
         let mut bound = false;
         let mut next = settled;
         for row in 0..self.job.law.order as usize {
-            let made = self.entry_at(rows, x, row);
-            let exact = self.is_exact(rows, made.exact, settled, x, row);
+            let shared = rows.shared();
+            let made = self.entry_at(&shared, x, row);
+            let exact = self.is_exact(&shared, made.exact, settled, x, row);
             // Before the puts, where the compiler still knows that `exact` is false after a remainder.
             next = with_mark(next, x, exact, made.entry);
             rows.put(row, x, made.entry);

@@ -2,14 +2,19 @@
 
 ghost use Rattle.std.specs.Prelude.{◌≡◌, ◌+◌, ◌-◌, ◌≤◌, ◌<◌, length, take, drop};
 ghost use Rattle.model.specs.Limits.{most_totals};
-ghost use Rattle.rows.specs.Layout.{work_places, column_at, marks_at, column_of, marks_of, placed, mark_put, work_put};
-ghost use Rattle.enclosure.specs.Known.{MarkedLong};
-ghost use Rattle.enclosure.specs.Mark.{number_in, exact_in};
-ghost use Rattle.enclosure.specs.Term.{RowLong, entries_of};
+ghost use Rattle.model.specs.Weights.{total_weight};
+ghost use Rattle.enclosure.specs.Known.{MarkedLong, SettledRow};
+ghost use Rattle.enclosure.specs.Mark.{number_in, exact_in, term_exact};
+ghost use Rattle.enclosure.specs.Run.{FactorSmall};
+ghost use Rattle.enclosure.specs.Term.{TermRoom, RowLong, line_factor, entries_of, term_sums};
 ghost use Rattle.rows.specs.Exact.{lows, highs};
-ghost use Rattle.rows.specs.Lent.{held, entries_in, marks_in, SameRows, EntryRoom, MarkRoom, MarkedRoom};
+ghost use Rattle.rows.specs.Layout.{work_places, column_at, marks_at, column_of, marks_of, placed, mark_put, work_put};
+ghost use Rattle.rows.specs.Lent.{held, shared_held, shared_entries, shared_marks, SameRows};
+ghost use Rattle.rows.specs.Lent.{EntryRoomIn, EntryRoom, MarkRoom, MarkedRoom};
 
-use enclosure::marks::MarkedRow;
+use enclosure::marks::{MarkedRow, Settled, are_exact};
+use enclosure::pass::add_term;
+use enclosure::term::Factor;
 use enclosure::{Entry, Row};
 
 // The columns of the work row that hold the entries of the rows 1 to 3: low, high and bound of each.
@@ -27,6 +32,17 @@ pub struct Rows<'a> {
     pub bound: &'a mut [i64],
     pub mark: &'a mut [i64],
     pub work: &'a mut [i64],
+    pub places: usize,
+}
+
+// The same rows, lent to be read.
+#[derive(Clone, Copy)]
+pub struct SharedRows<'a> {
+    pub low: &'a [i64],
+    pub high: &'a [i64],
+    pub bound: &'a [i64],
+    pub mark: &'a [i64],
+    pub work: &'a [i64],
     pub places: usize,
 }
 
@@ -48,9 +64,9 @@ fn marks_at(places: usize, row: usize) -> usize
     (ENTRY_COLUMNS + (row - 1)) * places
 }
 
-impl Rows<'_> {
+impl<'a> SharedRows<'a> {
     // The column of the work row that begins at `at`.
-    fn column(&self, at: usize) -> &[i64]
+    fn column(&self, at: usize) -> &'a [i64]
         requires { at + self.now.places ≤ length self.now.work.now }
         ensures { result.now ≡ take self.now.places (drop at self.now.work.now) }
     {
@@ -58,9 +74,9 @@ impl Rows<'_> {
     }
 
     // The entries of row `row`.
-    pub fn row(&self, row: usize) -> Row<'_>
-        requires { EntryRoom self.now × (row ≤ 3) }
-        ensures entries { entries_of result ≡ entries_in self.now row }
+    pub fn row(&self, row: usize) -> Row<'a>
+        requires { EntryRoomIn self.now.places (shared_held self.now) × (row ≤ 3) }
+        ensures entries { entries_of result ≡ shared_entries self.now row }
         ensures long { RowLong result self.now.places }
     {
         if row == 0 {
@@ -78,11 +94,11 @@ impl Rows<'_> {
     }
 
     // The ends of the entries of row `row`, and their marks.
-    pub fn marked_row(&self, row: usize) -> MarkedRow<'_>
+    pub fn marked_row(&self, row: usize) -> MarkedRow<'a>
         requires { MarkedRoom self.now × (row ≤ 3) }
-        ensures low { number_in result.low.now ≡ lows (entries_in self.now) row }
-        ensures high { number_in result.high.now ≡ highs (entries_in self.now) row }
-        ensures mark { exact_in result.mark.now ≡ marks_in self.now row }
+        ensures low { number_in result.low.now ≡ lows (shared_entries self.now) row }
+        ensures high { number_in result.high.now ≡ highs (shared_entries self.now) row }
+        ensures mark { exact_in result.mark.now ≡ shared_marks self.now row }
         ensures long { MarkedLong result self.now.places }
     {
         if row == 0 {
@@ -96,6 +112,62 @@ impl Rows<'_> {
             low: self.column(column_at(self.places, row, 0)),
             high: self.column(column_at(self.places, row, 1)),
             mark: self.column(marks_at(self.places, row)),
+        }
+    }
+
+    // The sums with those of one term added, which reads row `row`. It is made part of its callers, as a pass is: else the curve call has
+    // 5 % more instructions at k = 4, m = X = 500. No two of its parameters go together in every call.
+    #[inline(always)]
+    pub fn add_row(
+        &self,
+        sums: Entry,
+        factor: Factor,
+        x: usize,
+        weights: &[u64],
+        row: usize,
+    ) -> Entry
+        requires room { EntryRoomIn self.now.places (shared_held self.now) × (x < self.now.places) × (row ≤ 3) }
+        requires term_room { TermRoom sums factor x weights.now (shared_entries self.now row) }
+        ensures { result ≡ term_sums sums (line_factor factor weights.now) x weights.now (shared_entries self.now row) }
+    {
+        add_term(sums, factor, x, weights, &self.row(row))
+    }
+
+    // Whether all entries of row `row` leave a sum exact that one term uses. No two of the parameters go together in every call.
+    pub fn is_row_exact(
+        &self,
+        factor: Factor,
+        settled: Settled,
+        x: usize,
+        weights: &[u64],
+        row: usize,
+    ) -> bool
+        requires room { MarkedRoom self.now × (x < self.now.places) × (row ≤ 3) }
+        requires factor_small { FactorSmall factor × (total_weight weights.now ≤ 1000) }
+        requires settled_row { SettledRow settled x (lows (shared_entries self.now) row) (highs (shared_entries self.now) row)
+            (shared_marks self.now row) }
+        ensures { result ≡ term_exact (line_factor factor weights.now) x weights.now
+            (lows (shared_entries self.now) row) (highs (shared_entries self.now) row) (shared_marks self.now row) }
+    {
+        are_exact(factor, settled, x, weights, &self.marked_row(row))
+    }
+}
+
+impl Rows<'_> {
+    // The same rows, to be read.
+    #[inline(always)]
+    pub fn shared(&self) -> SharedRows<'_>
+        ensures places { result.places ≡ self.now.places }
+        ensures entries { shared_held result ≡ held self.now }
+        ensures mark { result.mark.now ≡ self.now.mark.now }
+    {
+        SharedRows {
+            low: self.low,
+            high: self.high,
+            bound: self.bound,
+            mark: self.mark,
+            work: self.work,
+            places: self.places,
         }
     }
 

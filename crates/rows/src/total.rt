@@ -1,17 +1,15 @@
 // What the totals are computed from, and the entries of one total, from the rows at earlier totals.
 
-ghost use Rattle.std.specs.Prelude.{◌≡◌, ◌≤◌, ◌<◌, ◌^◌};
+ghost use Rattle.std.specs.Prelude.{◌≡◌, ◌≤◌, ◌<◌, ◌^◌, pos, nat_abs, get_or};
 ghost use Rattle.model.specs.Limits.{unit, most_order, most_last};
 ghost use Rattle.enclosure.specs.Run.{FactorSmall};
-ghost use Rattle.enclosure.specs.Term.{TermRoom, line_factor, term_sums};
 ghost use Rattle.rows.specs.Curve.{first_entry, divisor_at, sums_zero, sums_at, entry_at};
 ghost use Rattle.rows.specs.Exact.{divides_at};
-ghost use Rattle.rows.specs.Lent.{entries_in, EntryRoom};
+ghost use Rattle.rows.specs.Lent.{shared_held, shared_entries};
 ghost use Rattle.rows.specs.Limits.{Limits};
-ghost use Rattle.rows.specs.Progress.{divisors_of, term_factor, Ready};
+ghost use Rattle.rows.specs.Progress.{divisors_of, term_factor, ReadyAt};
 
-use super::layout::Rows;
-use enclosure::pass::add_term;
+use super::layout::SharedRows;
 use enclosure::term::Factor;
 use enclosure::{Divided, Entry};
 use model::{Job, Start};
@@ -56,19 +54,27 @@ fn first_entry(start: Start, row: usize) -> Entry
     Entry::NONE
 }
 
-// What is asked of the rows, `Ready`, is about total `x` and the totals before it, so it is no fact of `Rows`. Room for entries and room
-// for marks are asked for apart, since not every function needs both.
+// The factor of term `i` + 1: A x + B y, times w(y); `a` and `b` are A_1..A_4 and B_1..B_4.
+pub fn term_factor(a: &[i64; 4], b: &[i64; 4], x: usize, i: usize) -> Factor
+    requires { (i < most_order) × (x ≤ most_last) × (nat_abs (get_or a.now i (pos 0)) ≤ 1000) }
+    ensures { result ≡ term_factor a.now b.now x i }
+{
+    Factor {
+        constant: a[i] * x as i64,
+        slope: b[i],
+    }
+}
+
+// What is asked of the rows, `ReadyAt`, is about total `x` and the totals before it, so it is no fact of `SharedRows`. Room for entries and
+// room for marks are asked for apart, since not every function needs both.
 impl Recursion<'_> {
-    // The factor of term `i` + 1: A x + B y, times w(y).
+    // The factor of term `i` + 1 of the job's law.
     pub fn term_factor(&self, x: usize, i: usize) -> Factor
         requires { (i < most_order) × (x ≤ most_last) }
         ensures factor { result ≡ term_factor self.now.job.law.a self.now.job.law.b x i }
         ensures small { FactorSmall result }
     {
-        Factor {
-            constant: self.job.law.a[i] * x as i64,
-            slope: self.job.law.b[i],
-        }
+        term_factor(&self.job.law.a, &self.job.law.b, x, i)
     }
 
     // The divisor of row `row` at total `x`.
@@ -84,46 +90,35 @@ impl Recursion<'_> {
         }
     }
 
-    // The sums with those of one term added, which reads row `row`. It is made part of its callers, as a pass is: else the curve call has
-    // 5 % more instructions at k = 4, m = X = 500. No two of its parameters go together in every call.
-    #[inline(always)]
-    fn add_row(&self, rows: &Rows<'_>, sums: Entry, factor: Factor, x: usize, row: usize) -> Entry
-        requires room { EntryRoom rows.now × (x < rows.now.places) × (row ≤ 3) }
-        requires term_room { TermRoom sums factor x self.now.weights.now (entries_in rows.now row) }
-        ensures { result ≡ term_sums sums (line_factor factor self.now.weights.now) x self.now.weights.now (entries_in rows.now row) }
-    {
-        add_term(sums, factor, x, self.weights, &rows.row(row))
-    }
-
     // The sums of row 0, term by term.
-    fn sums_zero(&self, rows: &Rows<'_>, x: usize) -> Entry
-        requires { Ready self.now.job.law.order x rows.now }
-        ensures { result ≡ sums_zero self.now.job.law self.now.weights.now (entries_in rows.now) x }
+    fn sums_zero(&self, rows: &SharedRows<'_>, x: usize) -> Entry
+        requires { ReadyAt self.now.job.law.order x rows.now.places (shared_held rows.now) }
+        ensures { result ≡ sums_zero self.now.job.law self.now.weights.now (shared_entries rows.now) x }
     {
         let mut sums = Entry::NONE;
         // By number, as term i + 1 reads row i.
         for i in 0..self.job.law.order as usize {
-            sums = self.add_row(rows, sums, self.term_factor(x, i), x, i);
+            sums = rows.add_row(sums, self.term_factor(x, i), x, self.weights, i);
         }
         sums
     }
 
     // The sums of row `row`.
-    fn sums_at(&self, rows: &Rows<'_>, x: usize, row: usize) -> Entry
-        requires { Ready self.now.job.law.order x rows.now × (row < self.now.job.law.order) }
-        ensures { result ≡ sums_at self.now.job.law self.now.weights.now (entries_in rows.now) row x }
+    fn sums_at(&self, rows: &SharedRows<'_>, x: usize, row: usize) -> Entry
+        requires { ReadyAt self.now.job.law.order x rows.now.places (shared_held rows.now) × (row < self.now.job.law.order) }
+        ensures { result ≡ sums_at self.now.job.law self.now.weights.now (shared_entries rows.now) row x }
     {
         if row == 0 {
             return self.sums_zero(rows, x);
         }
-        self.add_row(rows, Entry::NONE, WEIGHT_ALONE, x, row - 1)
+        rows.add_row(Entry::NONE, WEIGHT_ALONE, x, self.weights, row - 1)
     }
 
     // The entry of row `row` at total `x`, and whether its sums were divided without remainder.
-    pub fn entry_at(&self, rows: &Rows<'_>, x: usize, row: usize) -> Divided
-        requires { Ready self.now.job.law.order x rows.now × (row < self.now.job.law.order) }
-        ensures entry { result.entry ≡ entry_at self.now.job self.now.weights.now (entries_in rows.now) row x }
-        ensures exact { result.exact ≡ divides_at self.now.job self.now.weights.now (entries_in rows.now) row x }
+    pub fn entry_at(&self, rows: &SharedRows<'_>, x: usize, row: usize) -> Divided
+        requires { ReadyAt self.now.job.law.order x rows.now.places (shared_held rows.now) × (row < self.now.job.law.order) }
+        ensures entry { result.entry ≡ entry_at self.now.job self.now.weights.now (shared_entries rows.now) row x }
+        ensures exact { result.exact ≡ divides_at self.now.job self.now.weights.now (shared_entries rows.now) row x }
     {
         if x == 0 {
             return Divided {

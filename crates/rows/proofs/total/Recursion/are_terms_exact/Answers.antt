@@ -8,7 +8,7 @@ use Rattle.std.proofs.lemmas.List.FromFn.{length-range_with_len, get_or-range_wi
 use Rattle.algebra.specs.Sum.{all_of}
 use Rattle.algebra.proofs.And.{all_hold, one_fails}
 use Rattle.rows.specs.Exact.{lows, highs}
-use Rattle.rows.specs.Lent.{entries_in, marks_in}
+use Rattle.rows.specs.Lent.{shared_entries, shared_marks}
 use Rattle.rows.specs.Progress.{term_factor}
 use Rattle.rows.proofs.MarkRule.{row_exact, used_zero_lem}
 use Rattle.rows.proofs.total.Recursion.are_terms_exact.Goals as goal
@@ -30,8 +30,8 @@ pub returns : goal.returns
 returns c =
     let r = c.args.self.now in
     let rows = c.args.rows.now in
-    let test : ℕ → Bool = row_exact (term_factor r.job.law.a r.job.law.b c.args.x) r.weights.now c.args.x (lows (entries_in rows))
-    (highs (entries_in rows)) (marks_in rows) in
+    let test : ℕ → Bool = row_exact (term_factor r.job.law.a r.job.law.b c.args.x) r.weights.now c.args.x (lows (shared_entries rows))
+    (highs (shared_entries rows)) (shared_marks rows) in
     all_below c.all.result r.job.law.order test (cases_from_all _ _ _ (λ i. test i ≡ true) (λ i. test i ≡ false) c.all.ensures.ran
     (YieldsList-from_range 0 r.job.law.order r.job.law.order refl (omega arith))
     (λ x q k. search (rules, tests)) (λ x q k. search (rules, tests)))
