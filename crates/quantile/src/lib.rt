@@ -37,7 +37,10 @@ impl Numbered for Reason {
     }
 }
 
-// The total of a row, and the reason given where no sum of the row reaches the level.
+// The total of a row, and the reason given where no sum of the row reaches the level. It stays a function of its own:
+// made part of its callers, its loop sets a refusal's number and place in every turn, and a query on 501 places has 12,050 instructions in
+// place of 10,080.
+#[inline(never)]
 fn total_of(row: SummableRow, level: i64, short: Reason) -> Result<usize, Refusal<Reason>>
     ensures { paper result
         ≡ answered (first_refusal (reach_check row.entry.entries.now (number_of short) level)) (quantile_of row.entry.entries.now level) }
