@@ -1,6 +1,6 @@
 // Numbers from standard input, eight bytes each with the least first. Past the end of the input every number is 0.
 
-ghost use Rattle.std.specs.Prelude.{◌≤◌};
+ghost use Rattle.std.specs.Prelude.{◌≤◌, length};
 
 use std::io::Read;
 
@@ -47,13 +47,17 @@ pub fn at_most<R: Read>(input: &mut R, most: usize) -> usize
 }
 
 // As many first places of `space` as the next number says.
-pub fn front<'a, R: Read, N>(input: &mut R, space: &'a mut [N]) -> &'a mut [N] {
+pub fn front<'a, R: Read, N>(input: &mut R, space: &'a mut [N]) -> &'a mut [N]
+    ensures { length result.now ≤ length space.old }
+{
     let count = at_most(input, space.len());
     &mut space[..count]
 }
 
 // A count and as many numbers, which come into the first places of `space`.
-pub fn numbers<'a, R: Read, N: Copy + FromBytes>(input: &mut R, space: &'a mut [N]) -> &'a [N] {
+pub fn numbers<'a, R: Read, N: Copy + FromBytes>(input: &mut R, space: &'a mut [N]) -> &'a [N]
+    ensures { length result.now ≤ length space.old }
+{
     let row = front(input, space);
     for place in &mut *row {
         *place = number(input);
@@ -62,7 +66,9 @@ pub fn numbers<'a, R: Read, N: Copy + FromBytes>(input: &mut R, space: &'a mut [
 }
 
 // A count and as many bytes, likewise.
-pub fn bytes<'a, R: Read>(input: &mut R, space: &'a mut [u8]) -> &'a [u8] {
+pub fn bytes<'a, R: Read>(input: &mut R, space: &'a mut [u8]) -> &'a [u8]
+    ensures { length result.now ≤ length space.old }
+{
     let row = front(input, space);
     fill(input, row);
     row
